@@ -1,0 +1,4 @@
+pub mod Register
+pub mod Seal
+pub mod Unique
+pub mod Examples

@@ -1,0 +1,14 @@
+use mathlib.Core.Path.{refl}
+use Rattle.frames.specs.Flags.{flagsOf}
+use Rattle.frames.proofs.Flags.of.Statement.{statement}
+use Rattle.frames.proofs.Flags.of.Tie as tie
+use Rattle.frames.proofs.Flags.of.Reads as reads
+use Rattle.frames.proofs.Flags.of.Lts as lts
+
+-- src/lib.rt:27:5
+returns : tie.Need-returns
+unfolding flagsOf
+returns c = refl
+
+pub of-spec : {M : Type 1} → statement M
+of-spec = tie.close (tie.spec returns)

@@ -1,0 +1,33 @@
+-- 01, The card, step 1: "Under 4 bytes, over 64, or wrong check: silence."; Check and byte order: the check "stands last".
+use Prim.Native.Nat.{ℕ, _+_}
+use mathlib.Core.Bool.{Bool, cond, _&&_}
+use mathlib.Core.List.{List}
+use mathlib.Core.Path.{_≡_}
+use lib.Dec.{leb}
+use lib.IntN.{ℤ, pos}
+use lib.ListN.{length, take}
+use Rattle.lent.specs.Lent.{over, refused}
+use Rattle.crc.specs.Check.{sealed, isSealed}
+
+-- "Under 4 bytes"
+unfoldable pub shortest : ℕ
+shortest = 4
+
+-- "over 64"; Pulse tracks: "A frame has 0 to 64 bytes."
+unfoldable pub longest : ℕ
+longest = 64
+
+unfoldable pub isSound : List ℕ → Bool
+isSound frame = leb shortest (length frame) && (leb (length frame) longest && isSealed frame)
+
+-- appending the check to the first bytes of a buffer: the length with it, or number 8 (room short)
+unfoldable pub sealAnswer : List ℕ → ℕ → ℤ
+sealAnswer buffer n = cond (leb (n + 2) (length buffer)) (pos (n + 2)) (refused 8)
+
+unfoldable pub sealLeaves : List ℕ → ℕ → List ℕ
+sealLeaves buffer n = cond (leb (n + 2) (length buffer)) (over (sealed (take n buffer)) buffer) buffer
+
+-- what `seal` promises: its answer r, and the buffer that it leaves
+pub record Seals (buffer : List ℕ) (n : ℕ) (r : ℤ) (left : List ℕ) : Type 0 where
+  pub answer : r ≡ sealAnswer buffer n
+  pub leaves : left ≡ sealLeaves buffer n

@@ -1,0 +1,4 @@
+pub mod Every
+pub mod Patterns
+pub mod Units
+pub mod CodeWays

@@ -1,0 +1,3 @@
+pub mod Track
+pub mod Coder
+pub mod Decoder

@@ -1,0 +1,36 @@
+//! The groups of the comparison, each over one kind of arguments.
+
+mod checks;
+mod codings;
+mod damaged_tracks;
+mod garbage_tracks;
+mod null_buffers;
+mod random_frames;
+mod sealing;
+mod short_tracks;
+mod small_frames;
+mod soundness;
+
+use crate::calls::Calls;
+use crate::random::Random;
+
+pub type Group = fn(&mut Calls, &mut Random);
+
+pub const GROUPS: [(&str, Group); 10] = [
+    ("small frames", small_frames::run),
+    ("random frames", random_frames::run),
+    ("codings", codings::run),
+    ("short tracks", short_tracks::run),
+    ("damaged tracks", damaged_tracks::run),
+    ("garbage tracks", garbage_tracks::run),
+    ("soundness", soundness::run),
+    ("sealing", sealing::run),
+    ("checks", checks::run),
+    ("null buffers", null_buffers::run),
+];
+
+/// Bytes that tracks are made of, and some that almost are.
+const PLAUSIBLE: [u8; 20] = [
+    0x00, 0x01, 0x04, 0x10, 0x40, 0x20, 0x81, 0x84, 0x80, 0x02, 0x08, 0x05, 0x11, 0x44, 0x50, 0x41,
+    0x21, 0x85, 0x60, 0xFF,
+];

@@ -1,0 +1,33 @@
+//! NULL for buffers of no bytes, which the header allows.
+
+use crate::calls::Calls;
+use crate::random::Random;
+use crate::reference::coder::{track_of, CODINGS};
+use crate::reference::FRAME_MAX;
+
+pub fn run(calls: &mut Calls, random: &mut Random) {
+    calls.null_when_empty = true;
+    calls.check(&[]);
+    calls.is_sound(&[]);
+    for length in [0, 1, 2, usize::MAX - 1, usize::MAX] {
+        calls.seal(&[], length);
+    }
+    for coding in 0..=255 {
+        for room in 0..=4 {
+            calls.code(&[], coding, room);
+        }
+        for length in [1, FRAME_MAX, FRAME_MAX + 1] {
+            calls.code(&random.bytes(length), coding, 0);
+        }
+    }
+    for room in [0, 1, FRAME_MAX - 1, FRAME_MAX, FRAME_MAX + 1] {
+        calls.decode(&[], room);
+    }
+    for coding in CODINGS {
+        for length in 0..=FRAME_MAX + 2 {
+            calls.decode(&track_of(&random.bytes(length), coding), 0);
+        }
+    }
+    calls.decode(&[0x20], 0);
+    calls.null_when_empty = false;
+}

@@ -1,0 +1,41 @@
+//! Counts comparisons and prints the first differences.
+
+const PRINTED: u64 = 10;
+
+#[derive(Default)]
+pub struct Tally {
+    in_group: u64,
+    compared: u64,
+    different: u64,
+    empty_groups: u64,
+}
+
+impl Tally {
+    pub fn count(&mut self, same: bool, difference: impl FnOnce() -> String) {
+        self.in_group += 1;
+        if same {
+            return;
+        }
+        self.different += 1;
+        if self.different <= PRINTED {
+            println!("different: {}", difference());
+        }
+    }
+
+    /// Ends a group. One that compared nothing would be a silent hole.
+    pub fn end_group(&mut self, name: &str) {
+        println!("{name}: {} compared", self.in_group);
+        if self.in_group == 0 {
+            println!("error: {name} compared nothing");
+            self.empty_groups += 1;
+        }
+        self.compared += self.in_group;
+        self.in_group = 0;
+    }
+
+    /// Prints the last line; true if all is well.
+    pub fn end(&self) -> bool {
+        println!("comparison: {} compared, {} different", self.compared, self.different);
+        self.different == 0 && self.empty_groups == 0
+    }
+}

@@ -1,0 +1,90 @@
+//! Reads the vector files. Their heads say what a line holds.
+
+use std::fs;
+use std::path::Path;
+
+use crate::notation::parse;
+
+/// A message and its check, or one that is not its check.
+pub struct CheckCase {
+    pub place: String,
+    pub right: bool,
+    pub message: Vec<u8>,
+    pub check: u16,
+}
+
+/// A side of a track case: bytes, the slot mark, or the refusal met instead.
+pub enum Side {
+    Bytes(Vec<u8>),
+    SlotMark,
+    Refused(u8),
+}
+
+pub struct TrackCase {
+    pub place: String,
+    /// None where there is no frame.
+    pub coding: Option<u8>,
+    pub frame: Side,
+    pub track: Side,
+}
+
+pub fn checks(folder: &Path) -> Result<Vec<CheckCase>, String> {
+    cases(folder, "check.txt", |place, fields| {
+        let [message, check] = fields else { return Err("not two fields".to_string()) };
+        let (right, message) = match message.strip_prefix("not ") {
+            Some(message) => (false, message),
+            None => (true, *message),
+        };
+        let check = u16::from_str_radix(check, 16).map_err(|fault| fault.to_string())?;
+        Ok(CheckCase { place, right, message: parse(message)?, check })
+    })
+}
+
+pub fn tracks(folder: &Path) -> Result<Vec<TrackCase>, String> {
+    cases(folder, "tracks.txt", |place, fields| {
+        let [coding, frame, track] = fields else { return Err("not three fields".to_string()) };
+        let coding = match *coding {
+            "-" => None,
+            number => Some(number.parse().map_err(|_| format!("no coding: {number}"))?),
+        };
+        let (frame, track) = (side(frame)?, side(track)?);
+        // Any other line would be run in part or not at all.
+        match (&coding, &frame, &track) {
+            (Some(_), Side::Bytes(_), Side::Bytes(_) | Side::Refused(_)) => {}
+            (None, Side::SlotMark | Side::Refused(_), Side::Bytes(_)) => {}
+            _ => return Err("coding, frame and track don't go together".to_string()),
+        }
+        Ok(TrackCase { place, coding, frame, track })
+    })
+}
+
+fn side(text: &str) -> Result<Side, String> {
+    if text == "slot mark" {
+        return Ok(Side::SlotMark);
+    }
+    match text.strip_prefix("refused ") {
+        Some(number) => {
+            number.parse().map(Side::Refused).map_err(|_| format!("no number: {number}"))
+        }
+        None => parse(text).map(Side::Bytes),
+    }
+}
+
+/// The cases of a file: its lines without comments, cut at the bars.
+fn cases<Case>(
+    folder: &Path,
+    name: &str,
+    read: impl Fn(String, &[&str]) -> Result<Case, String>,
+) -> Result<Vec<Case>, String> {
+    let text = fs::read_to_string(folder.join(name)).map_err(|fault| format!("{name}: {fault}"))?;
+    let mut found = Vec::new();
+    for (index, line) in text.lines().enumerate() {
+        if line.trim().is_empty() || line.starts_with('#') {
+            continue;
+        }
+        let place = format!("{name} line {}", index + 1);
+        let fields: Vec<&str> = line.split('|').map(str::trim).collect();
+        found.push(read(place.clone(), &fields).map_err(|fault| format!("{place}: {fault}"))?);
+    }
+    Ok(found)
+}
