@@ -9,6 +9,7 @@ ghost use Rattle.frames.specs.Frame.{Seals, isSound};
 
 // The shortest and the longest frame, in bytes.
 pub const SHORTEST: usize = 4;
+
 pub const LONGEST: usize = 64;
 
 // The eight flags of a frame's first byte, b1 the lowest.

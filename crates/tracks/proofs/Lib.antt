@@ -2,3 +2,9 @@ pub mod Every
 pub mod Patterns
 pub mod Units
 pub mod CodeWays
+pub mod Zeros
+pub mod Reading
+pub mod Bytes
+pub mod LengthWays
+pub mod Parts
+pub mod DecodeWays

@@ -96,7 +96,7 @@ placed-pulses-suc coding i frame e h room =
     let v : List ℕ = coded coding (getD frame i 0) in
     let n : length s ≡ unit coding * i = length-pulses coding (take i frame) ∙ rw (length-take-le i frame (omega arith)) in
     let last : pulses coding (take (i + 1) frame) ≡ s ++ v =
-        rw (add-one, take-suc frame i 0 h, pulses-append) (ap (λ (l : List ℕ). s ++ l) (pulses-one coding (getD frame i 0)))
+    rw (add-one, take-suc frame i 0 h, pulses-append) (ap (λ (l : List ℕ). s ++ l) (pulses-one coding (getD frame i 0)))
     in
     rw (last, ← n) (placed-placed 1 s v e (rw (n, length-coded) room))
 
@@ -119,3 +119,11 @@ placed-track p e a z n h room =
 -- the units of n bytes
 pub units-most : (coding n : ℕ) → unit coding * n ≤ 64 * n
 units-most coding n = mul-le-mul-right n (unit-most coding)
+
+pub unit-least : (coding : ℕ) → 4 ≤ unit coding
+unfolding unit
+unit-least coding = go (eqb coding 0)
+  where
+    go : (t : Bool) → 4 ≤ cond t 4 64
+    go true = omega arith
+    go false = omega arith

@@ -58,12 +58,16 @@ countOf coding t = (length t - 2) / unit coding
 
 unfoldable pub isTrack : ℕ → List ℕ → Bool
 isTrack coding t =
-    eqb (getD t 0 0) (start coding)
-    && (eqb (length t) (trackLength coding (countOf coding t))
+    eqb (length t) (trackLength coding (countOf coding t))
+    && (eqb (getD t 0 0) (start coding)
     && (leb (countOf coding t) longest && (eqb (getD t (length t - 1) 0) end && areBytes coding (countOf coding t) (drop 1 t))))
 
 unfoldable pub frameOf : ℕ → List ℕ → List ℕ
 frameOf coding t = bytesOf coding (countOf coding t) (drop 1 t)
+
+-- the frame's length, or one more than the longest where the bytes are no track in this coding
+unfoldable pub lengthAs : ℕ → List ℕ → ℕ
+lengthAs coding t = cond (isTrack coding t) (countOf coding t) (suc longest)
 
 unfoldable pub isSlotMark : List ℕ → Bool
 isSlotMark t = eqb (length t) 1 && eqb (getD t 0 0) end
@@ -88,9 +92,10 @@ decodeAnswer t room =
 unfoldable pub decodeLeaves : List ℕ → List ℕ → List ℕ
 decodeLeaves t found =
     cond (leb longest (length found))
+    (cond (isSlotMark t) found
     (cond (isTrack 0 t) (over (frameOf 0 t) found)
     (cond (isTrack 1 t) (over (frameOf 1 t) found)
-    found))
+    found)))
     found
 
 -- what `decode` promises: its answer r, and the frame buffer that it leaves

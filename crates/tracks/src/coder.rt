@@ -6,10 +6,11 @@ ghost use lib.ListN.{length};
 ghost use Rattle.lent.specs.Lent.{placed, over};
 ghost use Rattle.tracks.specs.Coder.{Codes};
 ghost use Rattle.tracks.specs.Track.{blank, quad, long, coded, pulses, unit, trackOf, trackLength};
-
+use crate::pulse::END;
+use crate::pulse::pattern_of;
+use crate::pulse::start_of;
+use crate::pulse::unit_of;
 use frames::LONGEST;
-
-use crate::pulse::{pattern_of, start_of, unit_of, END};
 
 // 1 of 4: a byte as its four pairs, the lowest first.
 fn put_quad(track: &mut [u8], at: usize, v: u8)

@@ -5,11 +5,16 @@ ghost use Prim.Native.Nat.{_+_, _*_, _≤_};
 ghost use lib.ListN.{length, take, drop};
 ghost use Rattle.lent.specs.Lent.{over};
 ghost use Rattle.tracks.specs.Track.{unit};
-ghost use Rattle.tracks.specs.Decoder.{joined, zeros, lone, byteOf, areBytes, bytesOf};
-
+ghost use Rattle.tracks.specs.Decoder.{joined, zeros, lone, byteOf, areBytes, bytesOf, lengthAs, isSlotMark, Decodes};
+use crate::pulse::END;
+use crate::pulse::NONE;
+use crate::pulse::pair_of;
+use crate::pulse::start_of;
+use crate::pulse::unit_of;
 use frames::LONGEST;
 
-use crate::pulse::{pair_of, start_of, unit_of, END, NONE};
+// What a track that is none in a coding has for its length.
+const NO_FRAME: usize = LONGEST + 1;
 
 // Four pairs joined, the lowest first.
 fn join(a: u8, b: u8, c: u8, d: u8) -> u16
@@ -87,4 +92,101 @@ fn byte_at(track: &[u8], coding: u8, at: usize) -> u16
     } else {
         lone_at(track, at)
     }
+}
+
+// Whether n units stand for a byte each.
+fn all_bytes(track: &[u8], coding: u8, n: usize) -> bool
+    requires { ⌜ 1 + unit coding * n ≤ length (now track) ⌝ }
+    ensures { λ r. ⌜ r ≡ areBytes coding n (drop 1 (now (track .entry))) ⌝ }
+{
+    let width = unit_of(coding);
+    let mut at = 1;
+    let mut i = 0;
+    while i < n {
+        if NONE <= byte_at(track, coding, at) {
+            return false;
+        }
+        at += width;
+        i += 1;
+    }
+    true
+}
+
+// Writes the bytes of n units.
+fn put_bytes(track: &[u8], coding: u8, n: usize, frame: &mut [u8])
+    requires { ⌜ 1 + unit coding * n ≤ length (now track) ⌝ }
+    requires { ⌜ areBytes coding n (drop 1 (now track)) ≡ true ⌝ }
+    requires { ⌜ n ≤ length (now frame) ⌝ }
+    ensures { λ _. ⌜ now (frame .exit) ≡ over (bytesOf coding n (drop 1 (now (track .entry)))) (now (frame .entry)) ⌝ }
+{
+    let width = unit_of(coding);
+    let mut at = 1;
+    let mut i = 0;
+    while i < n {
+        frame[i] = byte_at(track, coding, at) as u8;
+        at += width;
+        i += 1;
+    }
+}
+
+// The length of the frame whose track this is in a coding, or one more than the longest where it is none.
+fn length_as(track: &[u8], coding: u8) -> usize
+    ensures { λ r. ⌜ r ≡ lengthAs coding (now (track .entry)) ⌝ }
+{
+    let n = track.len();
+    if n < 2 {
+        return NO_FRAME;
+    }
+    let width = unit_of(coding);
+    let count = (n - 2) / width;
+    if 2 + width * count != n {
+        return NO_FRAME;
+    }
+    if track[0] != start_of(coding) {
+        return NO_FRAME;
+    }
+    if LONGEST < count {
+        return NO_FRAME;
+    }
+    if track[n - 1] != END {
+        return NO_FRAME;
+    }
+    if all_bytes(track, coding, count) {
+        count
+    } else {
+        NO_FRAME
+    }
+}
+
+fn is_slot_mark(track: &[u8]) -> bool
+    ensures { λ r. ⌜ r ≡ isSlotMark (now (track .entry)) ⌝ }
+{
+    if track.len() != 1 {
+        return false;
+    }
+    track[0] == END
+}
+
+// The frame of a track at the start of the room that is lent. Returns 65,536 times the kind, which is the coding or 2 for a slot
+// mark, and the frame's length; or minus the number of the refusal.
+pub fn decode(track: &[u8], frame: &mut [u8]) -> i64
+    ensures { λ r. ⌜ Decodes (now (track .entry)) (now (frame .entry)) r (now (frame .exit)) ⌝ }
+{
+    if frame.len() < LONGEST {
+        return -8;
+    }
+    if is_slot_mark(track) {
+        return 131072;
+    }
+    let short = length_as(track, 0);
+    if short <= LONGEST {
+        put_bytes(track, 0, short, frame);
+        return short as i64;
+    }
+    let long = length_as(track, 1);
+    if long <= LONGEST {
+        put_bytes(track, 1, long, frame);
+        return (65536 + long) as i64;
+    }
+    -9
 }
