@@ -8,3 +8,6 @@ pub mod Bytes
 pub mod LengthWays
 pub mod Parts
 pub mod DecodeWays
+pub mod Coded
+pub mod RoundTrip
+pub mod Inverse

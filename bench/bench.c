@@ -1,0 +1,238 @@
+/*
+ * The library's check, coder and decoder beside the same in plain C. First
+ * both must give the same answers, then they take turns at the clock. A
+ * machine is never quite still, so each figure is the median of many rounds.
+ */
+#define _POSIX_C_SOURCE 199309L
+
+#include <stdbool.h>
+#include <stdio.h>
+#include <stdlib.h>
+#include <string.h>
+#include <time.h>
+
+#include "espenknoten.h"
+#include "plain.h"
+
+#define FRAMES 8
+#define ROUNDS 41
+/* The shortest turn at the clock: a coarse clock or one interrupt must not
+ * weigh much in it. */
+#define TURN_NS 1e6
+
+struct side {
+    uint16_t (*check)(const uint8_t *, size_t);
+    int64_t (*code)(const uint8_t *, size_t, uint8_t, uint8_t *, size_t);
+    int64_t (*decode)(const uint8_t *, size_t, uint8_t *, size_t);
+};
+
+static const struct side OURS = {ek_check, ek_code, ek_decode};
+static const struct side PLAIN = {plain_check, plain_code, plain_decode};
+
+enum task { CHECK, CODE, DECODE };
+
+struct row {
+    const char *name;
+    enum task task;
+    uint8_t coding;
+    size_t length;
+};
+
+static const struct row ROWS[] = {
+    {"check, 10 bytes", CHECK, 0, 10},
+    {"check, 64 bytes", CHECK, 0, 64},
+    {"coder, 1 of 4, 16 bytes", CODE, EK_ONE_OF_4, 16},
+    {"coder, 1 of 4, 64 bytes", CODE, EK_ONE_OF_4, 64},
+    {"coder, 1 of 256, 16 bytes", CODE, EK_ONE_OF_256, 16},
+    {"coder, 1 of 256, 64 bytes", CODE, EK_ONE_OF_256, 64},
+    {"decoder, 1 of 4, 16 bytes", DECODE, EK_ONE_OF_4, 16},
+    {"decoder, 1 of 4, 64 bytes", DECODE, EK_ONE_OF_4, 64},
+    {"decoder, 1 of 256, 16 bytes", DECODE, EK_ONE_OF_256, 16},
+    {"decoder, 1 of 256, 64 bytes", DECODE, EK_ONE_OF_256, 64},
+};
+#define ROW_COUNT (sizeof ROWS / sizeof ROWS[0])
+
+static uint8_t frames[FRAMES][EK_FRAME_MAX];
+static uint8_t tracks[FRAMES][EK_TRACK_MAX];
+static size_t track_length;
+
+/* Takes every answer, so that no call can be left out. */
+static volatile uint64_t sink;
+
+static void must(bool holds, const char *what)
+{
+    if (!holds) {
+        fprintf(stderr, "bench: ours and plain differ: %s\n", what);
+        exit(1);
+    }
+}
+
+/* Frames of bytes without order, the same in every run. */
+static void fill_frames(void)
+{
+    uint32_t x = 15693;
+    for (size_t f = 0; f < FRAMES; f++) {
+        for (size_t i = 0; i < EK_FRAME_MAX; i++) {
+            x ^= x << 13;
+            x ^= x >> 17;
+            x ^= x << 5;
+            frames[f][i] = (uint8_t)(x >> 24);
+        }
+    }
+}
+
+static void same_track(const uint8_t *frame, size_t length, uint8_t coding,
+                       size_t room)
+{
+    static uint8_t a[EK_TRACK_MAX], b[EK_TRACK_MAX];
+    memset(a, 0xA5, sizeof a);
+    memset(b, 0xA5, sizeof b);
+    must(ek_code(frame, length, coding, a, room) ==
+             plain_code(frame, length, coding, b, room),
+         "coder's answer");
+    must(memcmp(a, b, sizeof a) == 0, "coder's track");
+}
+
+static void same_frame(const uint8_t *track, size_t length, size_t room)
+{
+    uint8_t a[EK_FRAME_MAX], b[EK_FRAME_MAX];
+    memset(a, 0xA5, sizeof a);
+    memset(b, 0xA5, sizeof b);
+    must(ek_decode(track, length, a, room) ==
+             plain_decode(track, length, b, room),
+         "decoder's answer");
+    must(memcmp(a, b, sizeof a) == 0, "decoder's frame");
+}
+
+/* The track whole, cut short, and with each byte changed in four ways. */
+static void same_for_track(uint8_t *track, size_t length)
+{
+    same_frame(track, length, EK_FRAME_MAX);
+    same_frame(track, length, EK_FRAME_MAX - 1);
+    for (size_t i = 0; i < length; i++) {
+        uint8_t kept = track[i];
+        same_frame(track, i, EK_FRAME_MAX);
+        for (int bit = 0; bit < 8; bit += 2) {
+            track[i] = kept ^ (uint8_t)(1 << bit);
+            same_frame(track, length, EK_FRAME_MAX);
+        }
+        track[i] = kept;
+    }
+}
+
+static void same_answers(void)
+{
+    static uint8_t track[EK_TRACK_MAX];
+    for (size_t f = 0; f < FRAMES; f++) {
+        for (size_t length = 0; length <= EK_FRAME_MAX; length++) {
+            must(ek_check(frames[f], length) == plain_check(frames[f], length),
+                 "check");
+        }
+        for (size_t length = 0; length <= EK_FRAME_MAX; length += 16) {
+            for (uint8_t coding = 0; coding <= 2; coding++) {
+                same_track(frames[f], length, coding, EK_TRACK_MAX);
+                same_track(frames[f], length, coding, EK_TRACK_ONE_OF_4(length) - 1);
+                same_track(frames[f], length, coding,
+                           EK_TRACK_ONE_OF_256(length) - 1);
+                int64_t n = plain_code(frames[f], length, coding, track,
+                                       sizeof track);
+                if (n > 0) {
+                    same_for_track(track, (size_t)n);
+                }
+            }
+        }
+    }
+    same_frame((const uint8_t *)"\x20", 1, EK_FRAME_MAX);
+}
+
+static void fill_tracks(const struct row *row)
+{
+    for (size_t f = 0; f < FRAMES; f++) {
+        track_length = (size_t)plain_code(frames[f], row->length, row->coding,
+                                          tracks[f], EK_TRACK_MAX);
+    }
+}
+
+static double now_ns(void)
+{
+    struct timespec t;
+    clock_gettime(CLOCK_MONOTONIC, &t);
+    return (double)t.tv_sec * 1e9 + (double)t.tv_nsec;
+}
+
+/* Nanoseconds for all frames, passes times over. */
+static double turn(const struct side *side, const struct row *row,
+                   unsigned passes)
+{
+    uint8_t frame[EK_FRAME_MAX];
+    uint64_t sum = 0;
+    double start = now_ns();
+    for (unsigned pass = 0; pass < passes; pass++) {
+        for (size_t f = 0; f < FRAMES; f++) {
+            switch (row->task) {
+            case CHECK:
+                sum += side->check(frames[f], row->length);
+                break;
+            case CODE:
+                sum += (uint64_t)side->code(frames[f], row->length, row->coding,
+                                            tracks[f], EK_TRACK_MAX);
+                break;
+            case DECODE:
+                sum += (uint64_t)side->decode(tracks[f], track_length, frame,
+                                              sizeof frame);
+                sum += frame[0];
+                break;
+            }
+        }
+    }
+    double spent = now_ns() - start;
+    sink += sum;
+    return spent;
+}
+
+static int by_size(const void *a, const void *b)
+{
+    double x = *(const double *)a, y = *(const double *)b;
+    return (x > y) - (x < y);
+}
+
+static double median(double *values)
+{
+    qsort(values, ROUNDS, sizeof values[0], by_size);
+    return values[ROUNDS / 2];
+}
+
+static void measure(const struct row *row)
+{
+    double ours[ROUNDS], plain[ROUNDS];
+    unsigned passes = 1;
+    fill_tracks(row);
+    while (turn(&OURS, row, passes) < TURN_NS ||
+           turn(&PLAIN, row, passes) < TURN_NS) {
+        passes *= 2;
+    }
+    for (int round = 0; round < ROUNDS; round++) {
+        /* Who goes first changes from round to round. */
+        if (round % 2 == 0) {
+            ours[round] = turn(&OURS, row, passes);
+            plain[round] = turn(&PLAIN, row, passes);
+        } else {
+            plain[round] = turn(&PLAIN, row, passes);
+            ours[round] = turn(&OURS, row, passes);
+        }
+    }
+    double calls = (double)passes * FRAMES;
+    double a = median(ours) / calls, b = median(plain) / calls;
+    printf("%-28s %9.1f %9.1f %6.2f\n", row->name, a, b, a / b);
+}
+
+int main(void)
+{
+    fill_frames();
+    same_answers();
+    printf("%-28s %9s %9s %6s\n", "what", "ours ns", "plain ns", "ratio");
+    for (size_t i = 0; i < ROW_COUNT; i++) {
+        measure(&ROWS[i]);
+    }
+    return 0;
+}
