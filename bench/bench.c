@@ -15,7 +15,7 @@
 #include "plain.h"
 
 #define FRAMES 8
-#define ROUNDS 41
+#define ROUNDS 101
 /* The shortest turn at the clock: a coarse clock or one interrupt must not
  * weigh much in it. */
 #define TURN_NS 1e6
@@ -55,6 +55,10 @@ static const struct row ROWS[] = {
 static uint8_t frames[FRAMES][EK_FRAME_MAX];
 static uint8_t tracks[FRAMES][EK_TRACK_MAX];
 static size_t track_length;
+
+/* Nanoseconds of each turn, and how often a turn takes all frames. */
+static double ours[ROW_COUNT][ROUNDS], plain[ROW_COUNT][ROUNDS];
+static unsigned passes[ROW_COUNT];
 
 /* Takes every answer, so that no call can be left out. */
 static volatile uint64_t sink;
@@ -131,7 +135,8 @@ static void same_answers(void)
         for (size_t length = 0; length <= EK_FRAME_MAX; length += 16) {
             for (uint8_t coding = 0; coding <= 2; coding++) {
                 same_track(frames[f], length, coding, EK_TRACK_MAX);
-                same_track(frames[f], length, coding, EK_TRACK_ONE_OF_4(length) - 1);
+                same_track(frames[f], length, coding,
+                           EK_TRACK_ONE_OF_4(length) - 1);
                 same_track(frames[f], length, coding,
                            EK_TRACK_ONE_OF_256(length) - 1);
                 int64_t n = plain_code(frames[f], length, coding, track,
@@ -160,14 +165,14 @@ static double now_ns(void)
     return (double)t.tv_sec * 1e9 + (double)t.tv_nsec;
 }
 
-/* Nanoseconds for all frames, passes times over. */
+/* Nanoseconds for all frames, count times over. */
 static double turn(const struct side *side, const struct row *row,
-                   unsigned passes)
+                   unsigned count)
 {
     uint8_t frame[EK_FRAME_MAX];
     uint64_t sum = 0;
     double start = now_ns();
-    for (unsigned pass = 0; pass < passes; pass++) {
+    for (unsigned pass = 0; pass < count; pass++) {
         for (size_t f = 0; f < FRAMES; f++) {
             switch (row->task) {
             case CHECK:
@@ -202,37 +207,54 @@ static double median(double *values)
     return values[ROUNDS / 2];
 }
 
-static void measure(const struct row *row)
+static unsigned passes_for(const struct row *row)
 {
-    double ours[ROUNDS], plain[ROUNDS];
-    unsigned passes = 1;
-    fill_tracks(row);
-    while (turn(&OURS, row, passes) < TURN_NS ||
-           turn(&PLAIN, row, passes) < TURN_NS) {
-        passes *= 2;
+    unsigned count = 1;
+    while (turn(&OURS, row, count) < TURN_NS ||
+           turn(&PLAIN, row, count) < TURN_NS) {
+        count *= 2;
+    }
+    return count;
+}
+
+/* Every row has a turn in every round, so that a busy spell of the machine
+ * falls on all of them. Who goes first changes from round to round. */
+static void measure(void)
+{
+    for (size_t i = 0; i < ROW_COUNT; i++) {
+        fill_tracks(&ROWS[i]);
+        passes[i] = passes_for(&ROWS[i]);
     }
     for (int round = 0; round < ROUNDS; round++) {
-        /* Who goes first changes from round to round. */
-        if (round % 2 == 0) {
-            ours[round] = turn(&OURS, row, passes);
-            plain[round] = turn(&PLAIN, row, passes);
-        } else {
-            plain[round] = turn(&PLAIN, row, passes);
-            ours[round] = turn(&OURS, row, passes);
+        for (size_t i = 0; i < ROW_COUNT; i++) {
+            const struct row *row = &ROWS[i];
+            fill_tracks(row);
+            if (round % 2 == 0) {
+                ours[i][round] = turn(&OURS, row, passes[i]);
+                plain[i][round] = turn(&PLAIN, row, passes[i]);
+            } else {
+                plain[i][round] = turn(&PLAIN, row, passes[i]);
+                ours[i][round] = turn(&OURS, row, passes[i]);
+            }
         }
     }
-    double calls = (double)passes * FRAMES;
-    double a = median(ours) / calls, b = median(plain) / calls;
-    printf("%-28s %9.1f %9.1f %6.2f\n", row->name, a, b, a / b);
+}
+
+static void print_table(void)
+{
+    printf("%-28s %9s %9s %6s\n", "what", "ours ns", "plain ns", "ratio");
+    for (size_t i = 0; i < ROW_COUNT; i++) {
+        double calls = (double)passes[i] * FRAMES;
+        double a = median(ours[i]) / calls, b = median(plain[i]) / calls;
+        printf("%-28s %9.1f %9.1f %6.2f\n", ROWS[i].name, a, b, a / b);
+    }
 }
 
 int main(void)
 {
     fill_frames();
     same_answers();
-    printf("%-28s %9s %9s %6s\n", "what", "ours ns", "plain ns", "ratio");
-    for (size_t i = 0; i < ROW_COUNT; i++) {
-        measure(&ROWS[i]);
-    }
+    measure();
+    print_table();
     return 0;
 }

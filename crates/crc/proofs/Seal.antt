@@ -1,11 +1,12 @@
 -- A message is sealed exactly if it is some message with its check appended.
 -- By the places of the last two bytes. Assumes nothing.
 use mathlib.Core.Path.{_≡_, refl, sym, ap, ap₂, _∙_}
-use mathlib.Core.Bool.{true, and-eq-true-iff}
-use Prim.Native.Nat.{ℕ, zero, suc, _+_, _-_, _/_, _%_, _≤_, _<_}
+use mathlib.Core.Bool.{true, false, _&&_, and-eq-true-iff}
+use Prim.Native.Nat.{ℕ, zero, suc, _+_, _-_, _*_, _/_, _%_, _≤_, _<_}
+use native.Mathlib.Decide.{ℕ-discrete}
 use native.Mathlib.Omega.{arith}
 use mathlib.Core.List.{List, [], _∷_, _++_}
-use borrow.Author.Tests.{eq-eqb, eqb-true, le-leb, leb-true}
+use borrow.Author.Tests.{eq-eqb, ne-eqb, eqb-true, le-leb, leb-true}
 use lib.Dec.{leb, eqb}
 use lib.ListN.{length, getD, take, drop, length-append, take-append-drop, drop-of-length-le}
 use lib.Seq.{take-append-seam, getD-append-seam, getD-append-add, drop-cons}
@@ -15,6 +16,19 @@ use Rattle.crc.specs.Check.{register, checkOf, checkBytes, sealed, isChe
 pub check-fits : (m : List ℕ) → checkOf m ≤ 65535
 unfolding checkOf
 check-fits m = omega arith
+
+-- two bytes are the check, one by one, exactly if they are it together
+pub check-joined : (x low high : ℕ) → low < 256 → eqb (low + 256 * high) x ≡ isCheck x low high
+unfolding isCheck
+check-joined x low high h = go (ℕ-discrete (low + 256 * high) x)
+  where
+    go : Dec (low + 256 * high ≡ x) → eqb (low + 256 * high) x ≡ (eqb low (x % 256) && eqb high (x / 256))
+    go (yes e) = rw (eq-eqb (low + 256 * high) x e, eq-eqb low (x % 256) (omega arith), eq-eqb high (x / 256) (omega arith))
+    go (no e) = rw (ne-eqb (low + 256 * high) x e) (sym (other (ℕ-discrete low (x % 256))))
+      where
+        other : Dec (low ≡ x % 256) → (eqb low (x % 256) && eqb high (x / 256)) ≡ false
+        other (yes f) = rw (eq-eqb low (x % 256) f, ne-eqb high (x / 256) (λ g. e (omega arith)))
+        other (no f) = rw (ne-eqb low (x % 256) f)
 
 pub length-sealed : (m : List ℕ) → length (sealed m) ≡ length m + 2
 unfolding sealed checkBytes

@@ -1,5 +1,6 @@
 // The check of ISO/IEC 13239, worked out bit by bit as Annex C of ISO/IEC 15693-3 tells it.
 ghost use mathlib.Core.Path.{_≡_};
+ghost use Prim.Native.Nat.{_+_, _*_};
 ghost use Rattle.crc.specs.Check.{shifted, taken, checkOf, isCheck, isSealed};
 
 // The polynomial x^16 + x^12 + x^5 + 1, its lowest power in the top bit.
@@ -51,11 +52,18 @@ pub fn check(bytes: &[u8]) -> u16
     !x
 }
 
+// Two bytes as one number, low byte first.
+fn joined(low: u8, high: u8) -> u16
+    ensures { λ r. ⌜ r ≡ low + 256 * high ⌝ }
+{
+    (low as u16) + 256 * (high as u16)
+}
+
 // Whether two bytes are the check x, low byte first.
 fn is_check(x: u16, low: u8, high: u8) -> bool
     ensures { λ r. ⌜ r ≡ isCheck x low high ⌝ }
 {
-    wide(low) == x % 256 && wide(high) == x / 256
+    joined(low, high) == x
 }
 
 // Whether the last two bytes of a message are the check of the rest, low byte first.

@@ -2,6 +2,7 @@
 -- By induction over the bytes. Assumes nothing.
 use mathlib.Core.Path.{_≡_, refl, sym, ap, _∙_}
 use Prim.Native.Nat.{ℕ, zero, suc, _+_, _*_, _/_, _%_, _^_, _≤_, _<_, min}
+use native.Mathlib.Nat.{pow-suc}
 use native.Mathlib.Numerals.{add-one}
 use native.Mathlib.Omega.{arith}
 use mathlib.Core.Bool.{cond}
@@ -89,3 +90,24 @@ field-of-fours frame at count =
     field-sum 8 part (rw length-take (omega arith))
     ∙ sum-same 8 (λ k. getD part k 0) (byteAt frame at count) (λ k h. byte-of-field frame at count k h)
     ∙ omega arith
+
+-- ---- both round trips
+
+-- a value that fits comes back from its bytes
+pub field-of-bytes : (count value : ℕ) → value < 256 ^ count → fieldOf (fieldBytes count value) ≡ value
+unfolding fieldOf fieldBytes
+field-of-bytes zero value h = omega arith
+field-of-bytes (suc count) value h =
+    let power : 256 ^ suc count ≡ 256 ^ count * 256 = pow-suc 256 count in
+    let upper-fits : value / 256 < 256 ^ count = omega arith in
+    rw (field-of-bytes count (value / 256) upper-fits) (omega arith)
+
+-- and bytes come back from their value
+pub bytes-of-field : (bs : List ℕ) → ((i : ℕ) → getD bs i 0 < 256) → fieldBytes (length bs) (fieldOf bs) ≡ bs
+unfolding fieldOf fieldBytes
+bytes-of-field [] h = refl
+bytes-of-field (b ∷ bs) h =
+    let low : b < 256 = h 0 in
+    let here : (b + 256 * fieldOf bs) % 256 ≡ b = omega arith in
+    let rest : (b + 256 * fieldOf bs) / 256 ≡ fieldOf bs = omega arith in
+    rw (here, rest, bytes-of-field bs (λ i. h (suc i)))

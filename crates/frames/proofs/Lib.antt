@@ -1,3 +1,4 @@
 pub mod Fields
 pub mod Ways
+pub mod Sound
 pub mod Unique

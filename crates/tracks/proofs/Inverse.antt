@@ -56,10 +56,10 @@ decode-of-code (suc (suc coding)) frame found c bs h room = absurd (omega arith)
 
 pub data Reads (t found : List ℕ) : Type 0 where
   a-frame : (coding : ℕ) (frame : List ℕ) → coding < 2 → Bytes frame → length frame ≤ longest → t ≡ trackOf coding frame
-    → Decodes t found (told coding (length frame)) (over frame found) → Reads t found
+      → Decodes t found (told coding (length frame)) (over frame found) → Reads t found
   a-mark : t ≡ slotMark → Decodes t found (told 2 0) found → Reads t found
   no-track : ((coding : ℕ) (frame : List ℕ) → coding < 2 → Bytes frame → length frame ≤ longest → t ≡ trackOf coding frame → ⊥) → (t ≡ slotMark → ⊥)
-    → Decodes t found (refused 9) found → Reads t found
+      → Decodes t found (refused 9) found → Reads t found
 
 mark-of : (t : List ℕ) → isSlotMark t ≡ true → t ≡ slotMark
 unfolding isSlotMark

@@ -11,3 +11,5 @@ pub mod DecodeWays
 pub mod Coded
 pub mod RoundTrip
 pub mod Inverse
+pub mod Unique
+pub mod Examples

@@ -63,10 +63,10 @@ pulses-of-bytes coding (suc n) t h e =
     let u : ℕ = unit coding in
     let both = first-unit coding n t e in
     let first : take u t ≡ coded coding (byteOf coding (take u t)) =
-        coded-of-byte coding (take u t) (length-take-le u t (omega arith)) (both .0)
+    coded-of-byte coding (take u t) (length-take-le u t (omega arith)) (both .0)
     in
     let rest : drop u t ≡ pulses coding (bytesOf coding n (drop u t)) ++ drop (u * n) (drop u t) =
-        pulses-of-bytes coding n (drop u t) (rw length-drop (omega arith)) (both .1)
+    pulses-of-bytes coding n (drop u t) (rw length-drop (omega arith)) (both .1)
     in
     let place : u + u * n ≡ u * suc n = omega arith in
     sym (take-append-drop u t)
@@ -119,10 +119,10 @@ coded-of-track coding t e =
     let n : ℕ = countOf coding t in
     let u : ℕ = unit coding in
     let first : t ≡ start coding ∷ drop 1 t =
-        drop-cons t 0 0 (omega arith) ∙ ap (λ (b : ℕ). b ∷ drop 1 t) (parts .starts)
+    drop-cons t 0 0 (omega arith) ∙ ap (λ (b : ℕ). b ∷ drop 1 t) (parts .starts)
     in
     let units : drop 1 t ≡ pulses coding (bytesOf coding n (drop 1 t)) ++ drop (u * n) (drop 1 t) =
-        pulses-of-bytes coding n (drop 1 t) (rw length-drop (omega arith)) (parts .bytes)
+    pulses-of-bytes coding n (drop 1 t) (rw length-drop (omega arith)) (parts .bytes)
     in
     let last : drop (u * n) (drop 1 t) ≡ end ∷ [] = last-byte t (u * n) (omega arith) (parts .ends) in
     first ∙ ap (λ (l : List ℕ). start coding ∷ l) (units ∙ ap (λ (l : List ℕ). pulses coding (bytesOf coding n (drop 1 t)) ++ l) last)

@@ -1,3 +1,5 @@
+-- `crc::check` meets its contract. The loop's invariant: the register takes the bytes from i on to what it takes the whole message to.
+-- The measure is what is left of the message. Assumes nothing.
 use borrow.Author.Needs.{needs}
 use native.Mathlib.Omega.{arith}
 use mathlib.Core.Path.{_≡_, refl, sym, ap, _∙_}
@@ -7,9 +9,6 @@ use Rattle.crc.specs.Check.{preset, register, checkOf}
 use Rattle.crc.proofs.Register.{register-drop}
 use Rattle.crc.proofs.check.Statement.{statement}
 use Rattle.crc.proofs.check.Tie as tie
-use Rattle.crc.proofs.check.Reads as reads
-use Rattle.crc.proofs.check.Lts as lts
-use Rattle.crc.proofs.take.Reads as take-reads
 
 abbrev Inv-loop : tie.InvT-loop
 Inv-loop bytes x₀ i₀ x i = (i ≤ length bytes) × (register x (drop i bytes) ≡ register preset bytes)
@@ -17,33 +16,26 @@ Inv-loop bytes x₀ i₀ x i = (i ≤ length bytes) × (register x (drop i bytes
 abbrev μ-loop : tie.MeasureT-loop
 μ-loop bytes x₀ i₀ x i = length bytes - i
 
--- src/lib.rt:46:5
 loop-holds : tie.Need-loop-holds Inv-loop μ-loop
 loop-holds c = (omega arith, refl)
 
--- src/lib.rt:47:21
 shared-slice-read-take : tie.Need-shared-slice-read-take Inv-loop μ-loop
 shared-slice-read-take c = omega arith
 
--- src/lib.rt:47:9
 take-requires : tie.Need-take-requires Inv-loop μ-loop
 take-requires c κs = search needs
 
--- src/lib.rt:48:9
 add-i : tie.Need-add-i Inv-loop μ-loop
 add-i c = omega arith
 
--- src/lib.rt:46:5
 loop-less : tie.Need-loop-less Inv-loop μ-loop
 loop-less c = omega arith
 
--- src/lib.rt:46:5
 loop-again : tie.Need-loop-again Inv-loop μ-loop
 loop-again c =
     let h : c .before .before .before .loop .i < length (c .before .before .before .before .before .args .bytes .now) = omega arith in
     (omega arith, rw (c .take .ensures, ← register-drop _ _ _ h) (c .before .before .before .loop .inv .1))
 
--- src/lib.rt:41:1
 returns : tie.Need-returns Inv-loop μ-loop
 unfolding register checkOf
 returns c =

@@ -1,36 +1,27 @@
+-- `frames::field` meets its contract: a field is its two fours. Assumes nothing.
 use borrow.Author.Needs.{needs}
 use Rattle.frames.proofs.Fields.{field-of-fours}
 use Rattle.frames.proofs.field.Statement.{statement}
 use Rattle.frames.proofs.field.Tie as tie
-use Rattle.frames.proofs.field.Reads as reads
-use Rattle.frames.proofs.field.Lts as lts
-use Rattle.frames.proofs.four_at.Reads as four-at-reads
 
--- src/lib.rt:83:9
 four-at-requires : tie.Need-four-at-requires
 four-at-requires c κs = search needs
 
--- src/lib.rt:84:9
 four-at-requires-2 : tie.Need-four-at-requires-2
 four-at-requires-2 c κs = search needs
 
--- src/lib.rt:85:6
 cast-result : tie.Need-cast-result
 cast-result c = search needs
 
--- src/lib.rt:85:34
 cast-result-2 : tie.Need-cast-result-2
 cast-result-2 c = search needs
 
--- src/lib.rt:85:20
 mul-result : tie.Need-mul-result
 mul-result c = search needs
 
--- src/lib.rt:85:5
 add-result : tie.Need-add-result
 add-result c = search needs
 
--- src/lib.rt:80:1
 returns : tie.Need-returns
 returns c = rw (field-of-fours, c .before .four-at .ensures, c .four-at2 .ensures)
 

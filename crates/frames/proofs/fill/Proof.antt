@@ -1,3 +1,5 @@
+-- `frames::fill` meets its contract. The loop's invariant: the i lowest bytes are placed, and the rest of the value is left.
+-- The measure is what is left of the count. Assumes nothing.
 use native.Mathlib.Omega.{arith}
 use mathlib.Core.Path.{_≡_, refl, sym, ap, _∙_}
 use Prim.Native.Nat.{ℕ, _+_, _-_, _/_, _≤_}
@@ -10,8 +12,6 @@ use Rattle.frames.specs.Field.{fieldBytes}
 use Rattle.frames.proofs.Fields.{upper, upper-suc, placed-field-suc}
 use Rattle.frames.proofs.fill.Statement.{statement}
 use Rattle.frames.proofs.fill.Tie as tie
-use Rattle.frames.proofs.fill.Reads as reads
-use Rattle.frames.proofs.fill.Lts as lts
 
 abbrev Inv-loop : tie.InvT-loop
 Inv-loop buffer₀ at count value left₀ i₀ buffer left i =
@@ -20,32 +20,25 @@ Inv-loop buffer₀ at count value left₀ i₀ buffer left i =
 abbrev μ-loop : tie.MeasureT-loop
 μ-loop buffer₀ at count value left₀ i₀ buffer left i = count - i
 
--- src/lib.rt:95:5
 loop-holds : tie.Need-loop-holds Inv-loop μ-loop
 unfolding upper fieldBytes
 loop-holds c = (omega arith, refl, refl, sym (placed-none _ _))
 
--- src/lib.rt:96:26
 cast-buffer : tie.Need-cast-buffer Inv-loop μ-loop
 cast-buffer c = omega arith
 
--- src/lib.rt:96:16
 add-buffer : tie.Need-add-buffer Inv-loop μ-loop
 add-buffer c = omega arith
 
--- src/lib.rt:96:9
 slice-write-buffer : tie.Need-slice-write-buffer Inv-loop μ-loop
 slice-write-buffer c = omega arith
 
--- src/lib.rt:98:9
 add-i : tie.Need-add-i Inv-loop μ-loop
 add-i c = omega arith
 
--- src/lib.rt:95:5
 loop-less : tie.Need-loop-less Inv-loop μ-loop
 loop-less c = omega arith
 
--- src/lib.rt:95:5
 loop-again : tie.Need-loop-again Inv-loop μ-loop
 loop-again c =
     let at : ℕ = c .before .before .args .at in
@@ -59,11 +52,9 @@ loop-again c =
       rw (inv .3, inv .2) (placed-field-suc at i value e (omega arith)),
     )
 
--- src/lib.rt:89:1
 same-length : tie.Need-same-length Inv-loop μ-loop
 same-length c = omega arith
 
--- src/lib.rt:89:1
 returns : tie.Need-returns Inv-loop μ-loop
 returns c =
     let past : c .before .loop .i ≡ c .before .before .args .count = omega arith in

@@ -1,27 +1,21 @@
+-- `frames::is_sound` meets its contract: the definition goes by the same three tests. Assumes nothing.
 use borrow.Author.Needs.{needs}
 use borrow.Author.Tests.{le-leb, lt-leb}
 use Rattle.frames.specs.Frame.{isSound, shortest, longest}
 use Rattle.frames.proofs.is_sound.Statement.{statement}
 use Rattle.frames.proofs.is_sound.Tie as tie
-use Rattle.frames.proofs.is_sound.Reads as reads
-use Rattle.frames.proofs.is_sound.Lts as lts
-use Rattle.crc.proofs.is_sealed.Reads as is-sealed-reads
 
--- src/lib.rt:139:9
 returns : tie.Need-returns
 unfolding isSound shortest longest
 returns c = rw (lt-leb _ _ (c .if1 .taken))
 
--- src/lib.rt:142:9
 returns-2 : tie.Need-returns-2
 unfolding isSound shortest longest
 returns-2 c = rw (le-leb _ _ (c .before .if1 .left), lt-leb _ _ (c .if2 .taken))
 
--- src/lib.rt:144:5
 is-sealed-requires : tie.Need-is-sealed-requires
 is-sealed-requires c κs = search needs
 
--- src/lib.rt:134:1
 returns-3 : tie.Need-returns-3
 unfolding isSound shortest longest
 returns-3 c = rw (le-leb _ _ (c .before .before .if1 .left), le-leb _ _ (c .before .if2 .left), c .is-sealed .ensures)

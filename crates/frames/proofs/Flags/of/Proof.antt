@@ -1,11 +1,9 @@
+-- `frames::Flags::of` meets its contract: each bit is the definition's. Assumes nothing.
 use mathlib.Core.Path.{refl}
 use Rattle.frames.specs.Flags.{flagsOf}
 use Rattle.frames.proofs.Flags.of.Statement.{statement}
 use Rattle.frames.proofs.Flags.of.Tie as tie
-use Rattle.frames.proofs.Flags.of.Reads as reads
-use Rattle.frames.proofs.Flags.of.Lts as lts
 
--- src/lib.rt:27:5
 returns : tie.Need-returns
 unfolding flagsOf
 returns c = refl

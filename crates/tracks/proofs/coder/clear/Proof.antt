@@ -1,3 +1,5 @@
+-- `tracks::coder::clear` meets its contract. The loop's invariant: i bytes 00 are placed. The measure is what is left of 64.
+-- Assumes nothing.
 use native.Mathlib.Omega.{arith}
 use mathlib.Core.Path.{_≡_, refl, sym}
 use mathlib.Core.List.{List}
@@ -9,8 +11,6 @@ use Rattle.tracks.specs.Track.{blank}
 use Rattle.tracks.proofs.Units.{placed-zero-suc}
 use Rattle.tracks.proofs.coder.clear.Statement.{statement}
 use Rattle.tracks.proofs.coder.clear.Tie as tie
-use Rattle.tracks.proofs.coder.clear.Reads as reads
-use Rattle.tracks.proofs.coder.clear.Lts as lts
 
 abbrev Inv-loop : tie.InvT-loop
 Inv-loop track₀ at i₀ track i = (i ≤ 64) × (length track ≡ length track₀) × (track ≡ placed at (replicate i 0) track₀)
@@ -18,27 +18,21 @@ Inv-loop track₀ at i₀ track i = (i ≤ 64) × (length track ≡ length track
 abbrev μ-loop : tie.MeasureT-loop
 μ-loop track₀ at i₀ track i = 64 - i
 
--- src/coder.rt:32:5
 loop-holds : tie.Need-loop-holds Inv-loop μ-loop
 loop-holds c = (omega arith, refl, sym (placed-none _ _))
 
--- src/coder.rt:33:15
 add-track : tie.Need-add-track Inv-loop μ-loop
 add-track c = omega arith
 
--- src/coder.rt:33:9
 slice-write-track : tie.Need-slice-write-track Inv-loop μ-loop
 slice-write-track c = omega arith
 
--- src/coder.rt:34:9
 add-i : tie.Need-add-i Inv-loop μ-loop
 add-i c = omega arith
 
--- src/coder.rt:32:5
 loop-less : tie.Need-loop-less Inv-loop μ-loop
 loop-less c = omega arith
 
--- src/coder.rt:32:5
 loop-again : tie.Need-loop-again Inv-loop μ-loop
 loop-again c =
     let at : ℕ = c .before .before .args .at in
@@ -47,11 +41,9 @@ loop-again c =
     let inv = c .before .loop .inv in
     (omega arith, simp length-set (inv .1), rw (inv .2) (placed-zero-suc at i e (omega arith)))
 
--- src/coder.rt:27:1
 same-length : tie.Need-same-length Inv-loop μ-loop
 same-length c = omega arith
 
--- src/coder.rt:27:1
 returns : tie.Need-returns Inv-loop μ-loop
 unfolding blank
 returns c =

@@ -1,3 +1,4 @@
+-- `tracks::decoder::decode` meets its contract: the ways out of DecodeWays.antt, in order. Assumes nothing.
 use borrow.Author.Needs.{needs}
 use native.Mathlib.Omega.{arith}
 use mathlib.Core.Path.{sym, _∙_}
@@ -11,78 +12,101 @@ use Rattle.tracks.proofs.DecodeWays.{decodes-no-room, decodes-mark, dec
 use Rattle.tracks.proofs.Parts.{units-of-length, no-track-of-length}
 use Rattle.tracks.proofs.decoder.decode.Statement.{statement}
 use Rattle.tracks.proofs.decoder.decode.Tie as tie
-use Rattle.tracks.proofs.decoder.decode.Reads as reads
-use Rattle.tracks.proofs.decoder.decode.Lts as lts
-use Rattle.tracks.proofs.decoder.is_slot_mark.Reads as is-slot-mark-reads
-use Rattle.tracks.proofs.decoder.length_as.Reads as length-as-reads
-use Rattle.tracks.proofs.decoder.put_bytes.Reads as put-bytes-reads
 
--- src/decoder.rt:174:9
 returns : tie.Need-returns
 unfolding frameOf longest
-returns c = decodes-no-room (c .before .before .before .args .track .now) (c .before .before .before .args .frame .now) (c .if1 .taken)
+returns c =
+    let args = c .before .before .before .args in
+    let first = c .if1 in
+    decodes-no-room (args .track .now) (args .frame .now) (first .taken)
 
--- src/decoder.rt:176:8
 is-slot-mark-requires : tie.Need-is-slot-mark-requires
 is-slot-mark-requires c κs = search needs
 
--- src/decoder.rt:177:9
 returns-2 : tie.Need-returns-2
 unfolding frameOf longest
-returns-2 c = decodes-mark (c .before .before .before .before .before .args .track .now) (c .before .before .before .before .before .args .frame .now) (c .before .before .if1 .left) (sym (c .before .is-slot-mark .ensures) ∙ c .if2 .taken)
+returns-2 c =
+    let args = c .before .before .before .before .before .args in
+    let first = c .before .before .if1 in
+    let is-slot-mark = c .before .is-slot-mark in
+    let second = c .if2 in
+    decodes-mark (args .track .now) (args .frame .now) (first .left) (sym (is-slot-mark .ensures) ∙ second .taken)
 
--- src/decoder.rt:179:9
 length-as-requires : tie.Need-length-as-requires
 length-as-requires c κs = search needs
 
--- src/decoder.rt:181:9
 put-bytes-requires : tie.Need-put-bytes-requires
 unfolding longest
-put-bytes-requires c κs = ((units-of-length 0 (c .before .before .before .before .before .before .before .before .args .track .now) (c .before .before .length-as .result) (c .before .before .length-as .ensures) (c .before .if3 .taken)) .within, ((units-of-length 0 (c .before .before .before .before .before .before .before .before .args .track .now) (c .before .before .length-as .result) (c .before .before .length-as .ensures) (c .before .if3 .taken)) .bytes, omega arith))
+put-bytes-requires c κs =
+    let args = c .before .before .before .before .before .before .before .before .args in
+    let length-as = c .before .before .length-as in
+    let third = c .before .if3 in
+    ((units-of-length 0 (args .track .now) (length-as .result) (length-as .ensures) (third .taken)) .within, ((units-of-length 0 (args .track .now) (length-as .result) (length-as .ensures) (third .taken)) .bytes, omega arith))
 
--- src/decoder.rt:182:16
 cast-result : tie.Need-cast-result
 cast-result c = search needs
 
--- src/decoder.rt:182:9
 same-length : tie.Need-same-length
 same-length c = search needs
 
--- src/decoder.rt:182:9
 returns-3 : tie.Need-returns-3
 unfolding frameOf longest
-returns-3 c = rw (toZ-pos w64 (c .before .before .before .before .before .length-as .result) (omega arith), c .before .before .put-bytes .ensures, (units-of-length 0 (c .before .before .before .before .before .before .before .before .before .before .before .args .track .now) (c .before .before .before .before .before .length-as .result) (c .before .before .before .before .before .length-as .ensures) (c .before .before .before .before .if3 .taken)) .count) (rw zero-add at (decodes-of-4 (c .before .before .before .before .before .before .before .before .before .before .before .args .track .now) (c .before .before .before .before .before .before .before .before .before .before .before .args .frame .now) (c .before .before .before .before .before .before .before .before .if1 .left) (sym (c .before .before .before .before .before .before .before .is-slot-mark .ensures) ∙ c .before .before .before .before .before .before .if2 .left) ((units-of-length 0 (c .before .before .before .before .before .before .before .before .before .before .before .args .track .now) (c .before .before .before .before .before .length-as .result) (c .before .before .before .before .before .length-as .ensures) (c .before .before .before .before .if3 .taken)) .track)))
+returns-3 c =
+    let length-as = c .before .before .before .before .before .length-as in
+    let put-bytes = c .before .before .put-bytes in
+    let args = c .before .before .before .before .before .before .before .before .before .before .before .args in
+    let third = c .before .before .before .before .if3 in
+    let first = c .before .before .before .before .before .before .before .before .if1 in
+    let is-slot-mark = c .before .before .before .before .before .before .before .is-slot-mark in
+    let second = c .before .before .before .before .before .before .if2 in
+    rw (toZ-pos w64 (length-as .result) (omega arith), put-bytes .ensures, (units-of-length 0 (args .track .now) (length-as .result) (length-as .ensures) (third .taken)) .count) (rw zero-add at (decodes-of-4 (args .track .now) (args .frame .now) (first .left) (sym (is-slot-mark .ensures) ∙ second .left) ((units-of-length 0 (args .track .now) (length-as .result) (length-as .ensures) (third .taken)) .track)))
 
--- src/decoder.rt:184:9
 length-as-requires-2 : tie.Need-length-as-requires-2
 length-as-requires-2 c κs = search needs
 
--- src/decoder.rt:186:9
 put-bytes-requires-2 : tie.Need-put-bytes-requires-2
 unfolding longest
-put-bytes-requires-2 c κs = ((units-of-length 1 (c .before .before .before .before .before .before .before .before .before .before .args .track .now) (c .before .before .length-as2 .result) (c .before .before .length-as2 .ensures) (c .before .if4 .taken)) .within, ((units-of-length 1 (c .before .before .before .before .before .before .before .before .before .before .args .track .now) (c .before .before .length-as2 .result) (c .before .before .length-as2 .ensures) (c .before .if4 .taken)) .bytes, omega arith))
+put-bytes-requires-2 c κs =
+    let args = c .before .before .before .before .before .before .before .before .before .before .args in
+    let length-as2 = c .before .before .length-as2 in
+    let fourth = c .before .if4 in
+    ((units-of-length 1 (args .track .now) (length-as2 .result) (length-as2 .ensures) (fourth .taken)) .within, ((units-of-length 1 (args .track .now) (length-as2 .result) (length-as2 .ensures) (fourth .taken)) .bytes, omega arith))
 
--- src/decoder.rt:187:17
 add-result : tie.Need-add-result
 add-result c = search needs
 
--- src/decoder.rt:187:16
 cast-result-2 : tie.Need-cast-result-2
 cast-result-2 c = search needs
 
--- src/decoder.rt:187:9
 same-length-2 : tie.Need-same-length-2
 same-length-2 c = search needs
 
--- src/decoder.rt:187:9
 returns-4 : tie.Need-returns-4
 unfolding frameOf longest
-returns-4 c = rw (toZ-pos w64 (65536 + c .before .before .before .before .before .length-as2 .result) (omega arith), c .before .before .put-bytes2 .ensures, (units-of-length 1 (c .before .before .before .before .before .before .before .before .before .before .before .before .before .args .track .now) (c .before .before .before .before .before .length-as2 .result) (c .before .before .before .before .before .length-as2 .ensures) (c .before .before .before .before .if4 .taken)) .count) (decodes-of-256 (c .before .before .before .before .before .before .before .before .before .before .before .before .before .args .track .now) (c .before .before .before .before .before .before .before .before .before .before .before .before .before .args .frame .now) (c .before .before .before .before .before .before .before .before .before .before .if1 .left) (sym (c .before .before .before .before .before .before .before .before .before .is-slot-mark .ensures) ∙ c .before .before .before .before .before .before .before .before .if2 .left) (no-track-of-length 0 (c .before .before .before .before .before .before .before .before .before .before .before .before .before .args .track .now) (rw (c .before .before .before .before .before .before .before .length-as .ensures) at (c .before .before .before .before .before .before .if3 .left))) ((units-of-length 1 (c .before .before .before .before .before .before .before .before .before .before .before .before .before .args .track .now) (c .before .before .before .before .before .length-as2 .result) (c .before .before .before .before .before .length-as2 .ensures) (c .before .before .before .before .if4 .taken)) .track))
+returns-4 c =
+    let length-as2 = c .before .before .before .before .before .length-as2 in
+    let put-bytes2 = c .before .before .put-bytes2 in
+    let args = c .before .before .before .before .before .before .before .before .before .before .before .before .before .args in
+    let fourth = c .before .before .before .before .if4 in
+    let first = c .before .before .before .before .before .before .before .before .before .before .if1 in
+    let is-slot-mark = c .before .before .before .before .before .before .before .before .before .is-slot-mark in
+    let second = c .before .before .before .before .before .before .before .before .if2 in
+    let length-as = c .before .before .before .before .before .before .before .length-as in
+    let third = c .before .before .before .before .before .before .if3 in
+    rw (toZ-pos w64 (65536 + length-as2 .result) (omega arith), put-bytes2 .ensures, (units-of-length 1 (args .track .now) (length-as2 .result) (length-as2 .ensures) (fourth .taken)) .count) (decodes-of-256 (args .track .now) (args .frame .now) (first .left) (sym (is-slot-mark .ensures) ∙ second .left) (no-track-of-length 0 (args .track .now) (rw (length-as .ensures) at (third .left))) ((units-of-length 1 (args .track .now) (length-as2 .result) (length-as2 .ensures) (fourth .taken)) .track))
 
--- src/decoder.rt:170:1
 returns-5 : tie.Need-returns-5
 unfolding frameOf longest
-returns-5 c = decodes-no-track (c .before .before .before .before .before .before .before .before .before .args .track .now) (c .before .before .before .before .before .before .before .before .before .args .frame .now) (c .before .before .before .before .before .before .if1 .left) (sym (c .before .before .before .before .before .is-slot-mark .ensures) ∙ c .before .before .before .before .if2 .left) (no-track-of-length 0 (c .before .before .before .before .before .before .before .before .before .args .track .now) (rw (c .before .before .before .length-as .ensures) at (c .before .before .if3 .left))) (no-track-of-length 1 (c .before .before .before .before .before .before .before .before .before .args .track .now) (rw (c .before .length-as2 .ensures) at (c .if4 .left)))
+returns-5 c =
+    let args = c .before .before .before .before .before .before .before .before .before .args in
+    let first = c .before .before .before .before .before .before .if1 in
+    let is-slot-mark = c .before .before .before .before .before .is-slot-mark in
+    let second = c .before .before .before .before .if2 in
+    let length-as = c .before .before .before .length-as in
+    let third = c .before .before .if3 in
+    let length-as2 = c .before .length-as2 in
+    let fourth = c .if4 in
+    decodes-no-track (args .track .now) (args .frame .now) (first .left) (sym (is-slot-mark .ensures) ∙ second .left) (no-track-of-length 0 (args .track .now) (rw (length-as .ensures) at (third .left))) (no-track-of-length 1 (args .track .now) (rw (length-as2 .ensures) at (fourth .left)))
 
 pub decode-spec : {M : Type 1} → statement M
 decode-spec =

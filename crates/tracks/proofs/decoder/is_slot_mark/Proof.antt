@@ -1,21 +1,17 @@
+-- `tracks::decoder::is_slot_mark` meets its contract: the definition goes by the same two tests. Assumes nothing.
 use borrow.Author.Needs.{needs}
 use borrow.Author.Tests.{eq-eqb, ne-eqb}
 use Rattle.tracks.specs.Decoder.{isSlotMark}
 use Rattle.tracks.proofs.decoder.is_slot_mark.Statement.{statement}
 use Rattle.tracks.proofs.decoder.is_slot_mark.Tie as tie
-use Rattle.tracks.proofs.decoder.is_slot_mark.Reads as reads
-use Rattle.tracks.proofs.decoder.is_slot_mark.Lts as lts
 
--- src/decoder.rt:163:9
 returns : tie.Need-returns
 unfolding isSlotMark
 returns c = rw (ne-eqb _ _ (c .if1 .taken))
 
--- src/decoder.rt:165:5
 shared-slice-read-result : tie.Need-shared-slice-read-result
 shared-slice-read-result c = search needs
 
--- src/decoder.rt:159:1
 returns-2 : tie.Need-returns-2
 unfolding isSlotMark
 returns-2 c = rw (eq-eqb _ _ (c .before .if1 .left))

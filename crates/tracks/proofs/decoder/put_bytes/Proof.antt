@@ -1,3 +1,5 @@
+-- `tracks::decoder::put_bytes` meets its contract. The loop's invariant: the first i bytes stand in the frame, and the units left are bytes.
+-- The measure is what is left of the units. Assumes nothing.
 use native.Mathlib.Omega.{arith}
 use borrow.Author.Needs.{needs}
 use mathlib.Core.Path.{_≡_, refl, sym, _∙_, ap}
@@ -13,10 +15,6 @@ use Rattle.lent.proofs.Over.{placed-none, placed-start}
 use Rattle.lent.specs.Lent.{placed}
 use Rattle.tracks.proofs.decoder.put_bytes.Statement.{statement}
 use Rattle.tracks.proofs.decoder.put_bytes.Tie as tie
-use Rattle.tracks.proofs.decoder.put_bytes.Reads as reads
-use Rattle.tracks.proofs.decoder.put_bytes.Lts as lts
-use Rattle.tracks.proofs.decoder.byte_at.Reads as byte-at-reads
-use Rattle.tracks.proofs.pulse.unit_of.Reads as unit-of-reads
 
 abbrev Inv-loop : tie.InvT-loop
 Inv-loop track coding n frame₀ width at₀ i₀ frame at i =
@@ -30,50 +28,66 @@ Inv-loop track coding n frame₀ width at₀ i₀ frame at i =
 abbrev μ-loop : tie.MeasureT-loop
 μ-loop track coding n frame₀ width at₀ i₀ frame at i = n - i
 
--- src/decoder.rt:120:9
 unit-of-requires : tie.Need-unit-of-requires Inv-loop μ-loop
 unit-of-requires c κs = search needs
 
--- src/decoder.rt:123:5
 loop-holds : tie.Need-loop-holds Inv-loop μ-loop
 unfolding bytesOf
-loop-holds c = (omega arith, refl, c .unit-of .ensures, rw mul-zero, rw sub-zero (c .before .before .before .pre .1 .0), sym (placed-none 0 _))
+loop-holds c =
+    let unit-of = c .unit-of in
+    let asked = c .before .before .before .pre in
+    (omega arith, refl, unit-of .ensures, rw mul-zero, rw sub-zero (asked .1 .0), sym (placed-none 0 _))
 
--- src/decoder.rt:124:20
 byte-at-requires : tie.Need-byte-at-requires Inv-loop μ-loop
-byte-at-requires c κs = omega (arith, unit-room (c .before .before .before .before .before .args .coding) (c .before .loop .i) (c .before .before .before .before .before .args .n) (length (c .before .before .before .before .before .args .track .now)) (c .loop-test .taken) (c .before .before .before .before .before .pre .0))
+byte-at-requires c κs =
+    let args = c .before .before .before .before .before .args in
+    let loop = c .before .loop in
+    let test = c .loop-test in
+    let asked = c .before .before .before .before .before .pre in
+    omega (arith, unit-room (args .coding) (loop .i) (args .n) (length (args .track .now)) (test .taken) (asked .0))
 
--- src/decoder.rt:124:20
 cast-frame : tie.Need-cast-frame Inv-loop μ-loop
-cast-frame c = rw (c .byte-at .ensures) (omega (arith, are-bytes-next (c .before .before .before .before .before .before .args .coding) (c .before .before .before .before .before .before .args .n) (c .before .before .loop .i) (c .before .before .loop .at) (c .before .before .before .before .before .before .args .track .now) (c .before .loop-test .taken) (c .before .before .loop .inv .4) .0))
+cast-frame c =
+    let byte-at = c .byte-at in
+    let args = c .before .before .before .before .before .before .args in
+    let loop = c .before .before .loop in
+    let test = c .before .loop-test in
+    rw (byte-at .ensures) (omega (arith, are-bytes-next (args .coding) (args .n) (loop .i) (loop .at) (args .track .now) (test .taken) (loop .inv .4) .0))
 
--- src/decoder.rt:124:9
 slice-write-frame : tie.Need-slice-write-frame Inv-loop μ-loop
 slice-write-frame c = omega arith
 
--- src/decoder.rt:125:9
 add-at : tie.Need-add-at Inv-loop μ-loop
-add-at c = omega (arith, unit-room (c .before .before .before .before .before .before .args .coding) (c .before .before .loop .i) (c .before .before .before .before .before .before .args .n) (length (c .before .before .before .before .before .before .args .track .now)) (c .before .loop-test .taken) (c .before .before .before .before .before .before .pre .0))
+add-at c =
+    let args = c .before .before .before .before .before .before .args in
+    let loop = c .before .before .loop in
+    let test = c .before .loop-test in
+    let asked = c .before .before .before .before .before .before .pre in
+    omega (arith, unit-room (args .coding) (loop .i) (args .n) (length (args .track .now)) (test .taken) (asked .0))
 
--- src/decoder.rt:126:9
 add-i : tie.Need-add-i Inv-loop μ-loop
 add-i c = omega arith
 
--- src/decoder.rt:123:5
 loop-less : tie.Need-loop-less Inv-loop μ-loop
 loop-less c = omega arith
 
--- src/decoder.rt:123:5
 loop-again : tie.Need-loop-again Inv-loop μ-loop
-loop-again c = (omega arith, simp length-set (c .before .before .loop .inv .1), c .before .before .before .unit-of .ensures, omega arith, rw (c .before .before .before .unit-of .ensures) (are-bytes-next (c .before .before .before .before .before .before .args .coding) (c .before .before .before .before .before .before .args .n) (c .before .before .loop .i) (c .before .before .loop .at) (c .before .before .before .before .before .before .args .track .now) (c .before .loop-test .taken) (c .before .before .loop .inv .4) .1), rw (c .byte-at .ensures, c .before .before .loop .inv .5, c .before .before .loop .inv .3) (placed-bytes-suc (c .before .before .before .before .before .before .args .coding) (c .before .before .loop .i) (c .before .before .before .before .before .before .args .track .now) (c .before .before .before .before .before .before .args .frame .now) (omega arith)))
+loop-again c =
+    let loop = c .before .before .loop in
+    let unit-of = c .before .before .before .unit-of in
+    let args = c .before .before .before .before .before .before .args in
+    let test = c .before .loop-test in
+    let byte-at = c .byte-at in
+    (omega arith, simp length-set (loop .inv .1), unit-of .ensures, omega arith, rw (unit-of .ensures) (are-bytes-next (args .coding) (args .n) (loop .i) (loop .at) (args .track .now) (test .taken) (loop .inv .4) .1), rw (byte-at .ensures, loop .inv .5, loop .inv .3) (placed-bytes-suc (args .coding) (loop .i) (args .track .now) (args .frame .now) (omega arith)))
 
--- src/decoder.rt:114:1
 same-length : tie.Need-same-length Inv-loop μ-loop
 same-length c = omega arith
 
--- src/decoder.rt:114:1
 returns : tie.Need-returns Inv-loop μ-loop
-returns c = let past : c .before .loop .i ≡ c .before .before .before .before .before .args .n = omega arith in rw past at (c .before .loop .inv .5) ∙ placed-start _ _
+returns c =
+    let loop = c .before .loop in
+    let args = c .before .before .before .before .before .args in
+    let past : loop .i ≡ args .n = omega arith in rw past at (loop .inv .5) ∙ placed-start _ _
 
 pub put-bytes-spec : {M : Type 1} → statement M
 put-bytes-spec =

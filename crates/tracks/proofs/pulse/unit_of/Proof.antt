@@ -1,17 +1,14 @@
+-- `tracks::pulse::unit_of` meets its contract: by the coding. Assumes nothing.
 use mathlib.Core.Path.{refl}
 use borrow.Author.Tests.{eq-eqb, ne-eqb}
 use Rattle.tracks.specs.Track.{unit}
 use Rattle.tracks.proofs.pulse.unit_of.Statement.{statement}
 use Rattle.tracks.proofs.pulse.unit_of.Tie as tie
-use Rattle.tracks.proofs.pulse.unit_of.Reads as reads
-use Rattle.tracks.proofs.pulse.unit_of.Lts as lts
 
--- src/pulse.rt:18:1
 returns : tie.Need-returns
 unfolding unit
 returns c = rw (eq-eqb _ _ (c .if1 .taken))
 
--- src/pulse.rt:18:1
 returns-2 : tie.Need-returns-2
 unfolding unit
 returns-2 c = rw (ne-eqb _ _ (c .if1 .left))

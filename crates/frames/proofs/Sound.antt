@@ -1,0 +1,34 @@
+-- A frame is sound exactly if it is a message with its check appended, of 4 to 64 bytes in all. By the tests of the definition.
+-- Assumes nothing.
+use mathlib.Core.Path.{_≡_, refl, sym}
+use mathlib.Core.Bool.{true, _&&_, and-eq-true-iff}
+use Prim.Native.Nat.{ℕ, _+_, _-_, _≤_}
+use mathlib.Core.List.{List}
+use borrow.Author.Tests.{le-leb, leb-true}
+use lib.Dec.{leb}
+use lib.ListN.{length, take}
+use Rattle.crc.specs.Check.{sealed, isSealed}
+use Rattle.crc.proofs.Seal.{length-sealed, is-sealed-of-sealed, sealed-of-is-sealed}
+use Rattle.frames.specs.Frame.{shortest, longest, isSound}
+
+pub sound-of-sealed : (m : List ℕ) → shortest ≤ length m + 2 → length m + 2 ≤ longest → isSound (sealed m) ≡ true
+unfolding isSound
+sound-of-sealed m a b =
+    rw (length-sealed m, le-leb shortest (length m + 2) a, le-leb (length m + 2) longest b) (is-sealed-of-sealed m)
+
+-- what a sound frame is
+pub record Sound (frame : List ℕ) : Type 0 where
+  pub least : shortest ≤ length frame
+  pub most : length frame ≤ longest
+  pub seal : frame ≡ sealed (take (length frame - 2) frame)
+
+pub sealed-of-sound : (frame : List ℕ) → isSound frame ≡ true → Sound frame
+unfolding isSound
+sealed-of-sound frame e =
+    let a = and-eq-true-iff (leb shortest (length frame)) (leb (length frame) longest && isSealed frame) .0 e in
+    let b = and-eq-true-iff (leb (length frame) longest) (isSealed frame) .0 (a .1) in
+    record {
+      least = leb-true shortest (length frame) (a .0);
+      most = leb-true (length frame) longest (b .0);
+      seal = sealed-of-is-sealed frame (b .1);
+    }

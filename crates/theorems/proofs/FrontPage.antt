@@ -1,0 +1,101 @@
+-- What is proved of Espenknoten, in one place: each statement in full, each proof one citation. Assumes nothing.
+-- The definitions stand in the folders specs/ of the crates, each under the sentence of the rules page that it says. That every function
+-- meets its promise, never leaves what it was lent, and always returns, is what the gate's last line says of the crates themselves.
+use mathlib.Core.Path.{_≡_}
+use mathlib.Core.Bool.{Bool, true}
+use mathlib.Core.List.{List}
+use Prim.Native.Nat.{ℕ, _+_, _-_, _≤_, _<_}
+use lib.IntN.{ℤ}
+use lib.ListN.{length, take}
+use Rattle.lent.specs.Lent.{over}
+use Rattle.crc.specs.Check.{sealed, checkOf, isSealed}
+use Rattle.crc.proofs.Seal.{is-sealed-of-sealed, sealed-of-is-sealed}
+use Rattle.crc.proofs.Unique.{check-unique, is-sealed-unique}
+use Rattle.crc.proofs.Examples.{Checks, checks}
+use Rattle.frames.specs.declared.Flags.{Flags}
+use Rattle.frames.specs.Flags.{flagsOf}
+use Rattle.frames.specs.Field.{fieldAt, PutsField}
+use Rattle.frames.specs.Frame.{shortest, longest, isSound, Seals}
+use Rattle.frames.proofs.Sound.{Sound, sound-of-sealed, sealed-of-sound}
+use Rattle.frames.proofs.Unique.{flags-unique, field-unique, put-field-unique, seal-unique, is-sound-unique}
+use Rattle.tracks.specs.Track.{trackOf, slotMark}
+use Rattle.tracks.specs.Coder.{Codes}
+use Rattle.tracks.specs.Decoder.{told, Decodes}
+use Rattle.tracks.proofs.RoundTrip.{Bytes}
+use Rattle.tracks.proofs.Inverse.{Reads, decode-of-code, decode-reads, mark-no-track}
+use Rattle.tracks.proofs.Unique.{code-unique, decode-unique}
+use Rattle.tracks.proofs.Examples.{Tracks, tracks}
+
+-- ---- The check
+
+-- A message with its check appended is taken for sealed, and nothing else is.
+sealing : (m : List ℕ) → isSealed (sealed m) ≡ true
+sealing = is-sealed-of-sealed
+
+sealing-only : (m : List ℕ) → isSealed m ≡ true → m ≡ sealed (take (length m - 2) m)
+sealing-only = sealed-of-is-sealed
+
+-- A frame is sound exactly if it is a message with its check appended, of 4 to 64 bytes in all.
+soundness : (m : List ℕ) → shortest ≤ length m + 2 → length m + 2 ≤ longest → isSound (sealed m) ≡ true
+soundness = sound-of-sealed
+
+soundness-only : (frame : List ℕ) → isSound frame ≡ true → Sound frame
+soundness-only = sealed-of-sound
+
+-- ---- Pulse tracks (demand 2: "frame to track and track to frame")
+
+-- Decoding what was coded gives the frame and its coding back, for every frame of 0 to 64 bytes.
+decoding-what-was-coded : (coding : ℕ) (frame found : List ℕ) → coding < 2 → Bytes frame → length frame ≤ longest → longest ≤ length found
+    → Decodes (trackOf coding frame) found (told coding (length frame)) (over frame found)
+decoding-what-was-coded = decode-of-code
+
+-- Whatever bytes are read, they are, to the byte, what the coder makes of the frame that is given back, or the slot mark; where they are
+-- neither, the answer is number 9 and nothing changes.
+reading-anything : (t found : List ℕ) → longest ≤ length found → Reads t found
+reading-anything = decode-reads
+
+-- The slot mark is no frame's track.
+mark-alone : (coding : ℕ) (frame : List ℕ) → trackOf coding frame ≡ slotMark → ⊥
+mark-alone = mark-no-track
+
+-- ---- Every promise allows one result
+
+check-once : (bytes : List ℕ) (r s : ℕ) → r ≡ checkOf bytes → s ≡ checkOf bytes → r ≡ s
+check-once = check-unique
+
+is-sealed-once : (message : List ℕ) (r s : Bool) → r ≡ isSealed message → s ≡ isSealed message → r ≡ s
+is-sealed-once = is-sealed-unique
+
+flags-once : (b : ℕ) (r s : Flags) → r ≡ flagsOf b → s ≡ flagsOf b → r ≡ s
+flags-once = flags-unique
+
+field-once : (frame : List ℕ) (at count r s : ℕ) → r ≡ fieldAt frame at count → s ≡ fieldAt frame at count → r ≡ s
+field-once = field-unique
+
+put-field-once : {buffer : List ℕ} {at count value : ℕ} {r s : ℤ} {left right : List ℕ}
+    → PutsField buffer at count value r left → PutsField buffer at count value s right → (r ≡ s) × (left ≡ right)
+put-field-once = put-field-unique
+
+seal-once : {buffer : List ℕ} {n : ℕ} {r s : ℤ} {left right : List ℕ}
+    → Seals buffer n r left → Seals buffer n s right → (r ≡ s) × (left ≡ right)
+seal-once = seal-unique
+
+is-sound-once : (frame : List ℕ) (r s : Bool) → r ≡ isSound frame → s ≡ isSound frame → r ≡ s
+is-sound-once = is-sound-unique
+
+code-once : {frame : List ℕ} {coding : ℕ} {found : List ℕ} {r s : ℤ} {left right : List ℕ}
+    → Codes frame coding found r left → Codes frame coding found s right → (r ≡ s) × (left ≡ right)
+code-once = code-unique
+
+decode-once : {t found : List ℕ} {r s : ℤ} {left right : List ℕ}
+    → Decodes t found r left → Decodes t found s right → (r ≡ s) × (left ≡ right)
+decode-once = decode-unique
+
+-- ---- The examples of the rules page, under a single statement
+
+record Examples : Type 0 where
+  of-checks : Checks
+  of-tracks : Tracks
+
+examples : Examples
+examples = record { of-checks = checks; of-tracks = tracks }
