@@ -1,21 +1,20 @@
 /*
- * The library's check, coder and decoder beside the same in plain C. First
- * both must give the same answers, then they take turns at the clock. A
- * machine is never quite still, so each figure is the median of many rounds.
+ * The library's check, coder and decoder beside the same in plain C. Both take
+ * turns at the clock. A machine is never quite still, so each figure is the
+ * median of many rounds. The script run makes a table of what is printed here.
  */
 #define _POSIX_C_SOURCE 199309L
 
-#include <stdbool.h>
 #include <stdio.h>
 #include <stdlib.h>
-#include <string.h>
 #include <time.h>
 
 #include "espenknoten.h"
 #include "plain.h"
+#include "same.h"
 
 #define FRAMES 8
-#define ROUNDS 101
+#define ROUNDS 51
 /* The shortest turn at the clock: a coarse clock or one interrupt must not
  * weigh much in it. */
 #define TURN_NS 1e6
@@ -63,14 +62,6 @@ static unsigned passes[ROW_COUNT];
 /* Takes every answer, so that no call can be left out. */
 static volatile uint64_t sink;
 
-static void must(bool holds, const char *what)
-{
-    if (!holds) {
-        fprintf(stderr, "bench: ours and plain differ: %s\n", what);
-        exit(1);
-    }
-}
-
 /* Frames of bytes without order, the same in every run. */
 static void fill_frames(void)
 {
@@ -83,71 +74,6 @@ static void fill_frames(void)
             frames[f][i] = (uint8_t)(x >> 24);
         }
     }
-}
-
-static void same_track(const uint8_t *frame, size_t length, uint8_t coding,
-                       size_t room)
-{
-    static uint8_t a[EK_TRACK_MAX], b[EK_TRACK_MAX];
-    memset(a, 0xA5, sizeof a);
-    memset(b, 0xA5, sizeof b);
-    must(ek_code(frame, length, coding, a, room) ==
-             plain_code(frame, length, coding, b, room),
-         "coder's answer");
-    must(memcmp(a, b, sizeof a) == 0, "coder's track");
-}
-
-static void same_frame(const uint8_t *track, size_t length, size_t room)
-{
-    uint8_t a[EK_FRAME_MAX], b[EK_FRAME_MAX];
-    memset(a, 0xA5, sizeof a);
-    memset(b, 0xA5, sizeof b);
-    must(ek_decode(track, length, a, room) ==
-             plain_decode(track, length, b, room),
-         "decoder's answer");
-    must(memcmp(a, b, sizeof a) == 0, "decoder's frame");
-}
-
-/* The track whole, cut short, and with each byte changed in four ways. */
-static void same_for_track(uint8_t *track, size_t length)
-{
-    same_frame(track, length, EK_FRAME_MAX);
-    same_frame(track, length, EK_FRAME_MAX - 1);
-    for (size_t i = 0; i < length; i++) {
-        uint8_t kept = track[i];
-        same_frame(track, i, EK_FRAME_MAX);
-        for (int bit = 0; bit < 8; bit += 2) {
-            track[i] = kept ^ (uint8_t)(1 << bit);
-            same_frame(track, length, EK_FRAME_MAX);
-        }
-        track[i] = kept;
-    }
-}
-
-static void same_answers(void)
-{
-    static uint8_t track[EK_TRACK_MAX];
-    for (size_t f = 0; f < FRAMES; f++) {
-        for (size_t length = 0; length <= EK_FRAME_MAX; length++) {
-            must(ek_check(frames[f], length) == plain_check(frames[f], length),
-                 "check");
-        }
-        for (size_t length = 0; length <= EK_FRAME_MAX; length += 16) {
-            for (uint8_t coding = 0; coding <= 2; coding++) {
-                same_track(frames[f], length, coding, EK_TRACK_MAX);
-                same_track(frames[f], length, coding,
-                           EK_TRACK_ONE_OF_4(length) - 1);
-                same_track(frames[f], length, coding,
-                           EK_TRACK_ONE_OF_256(length) - 1);
-                int64_t n = plain_code(frames[f], length, coding, track,
-                                       sizeof track);
-                if (n > 0) {
-                    same_for_track(track, (size_t)n);
-                }
-            }
-        }
-    }
-    same_frame((const uint8_t *)"\x20", 1, EK_FRAME_MAX);
 }
 
 static void fill_tracks(const struct row *row)
@@ -240,21 +166,24 @@ static void measure(void)
     }
 }
 
-static void print_table(void)
+/* A line a row: what, ours and plain in nanoseconds a call. */
+static void print_rows(void)
 {
-    printf("%-28s %9s %9s %6s\n", "what", "ours ns", "plain ns", "ratio");
     for (size_t i = 0; i < ROW_COUNT; i++) {
         double calls = (double)passes[i] * FRAMES;
-        double a = median(ours[i]) / calls, b = median(plain[i]) / calls;
-        printf("%-28s %9.1f %9.1f %6.2f\n", ROWS[i].name, a, b, a / b);
+        printf("%s|%.3f|%.3f\n", ROWS[i].name, median(ours[i]) / calls,
+               median(plain[i]) / calls);
     }
 }
 
 int main(void)
 {
     fill_frames();
-    same_answers();
+    for (size_t f = 0; f < FRAMES; f++) {
+        must_be_same(frames[f]);
+    }
+    must_refuse_same(frames[0]);
     measure();
-    print_table();
+    print_rows();
     return 0;
 }

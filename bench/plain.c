@@ -18,7 +18,7 @@
 
 uint16_t plain_check(const uint8_t *bytes, size_t length)
 {
-    uint16_t x = 0xffff;
+    unsigned x = 0xffff;
     for (size_t i = 0; i < length; i++) {
         x ^= bytes[i];
         for (int bit = 0; bit < 8; bit++) {
@@ -29,7 +29,7 @@ uint16_t plain_check(const uint8_t *bytes, size_t length)
             }
         }
     }
-    return ~x;
+    return (uint16_t)~x;
 }
 
 /* The pause pattern of the lowest bit pair of v. */
@@ -105,7 +105,7 @@ static unsigned quad_at(const uint8_t *unit)
 /* 1 of 256: the byte of 64 track bytes, of which one is not 00, or NONE. */
 static unsigned lone_at(const uint8_t *unit)
 {
-    unsigned place = 0;
+    size_t place = 0;
     while (place < 64 && unit[place] == 0) {
         place++;
     }
@@ -116,12 +116,12 @@ static unsigned lone_at(const uint8_t *unit)
     if (pair > 3) {
         return NONE;
     }
-    for (unsigned i = place + 1; i < 64; i++) {
+    for (size_t i = place + 1; i < 64; i++) {
         if (unit[i] != 0) {
             return NONE;
         }
     }
-    return 4 * place + pair;
+    return 4 * (unsigned)place + pair;
 }
 
 static int64_t decode_one_of_4(const uint8_t *units, size_t size,

@@ -1,8 +1,7 @@
 //! The independent implementation: check, sealed frames, coder and decoder.
 //!
 //! Written from the rules page ("Check and byte order", "Pulse tracks",
-//! "Numbers of refused calls", "Examples") and the C header, and from nothing
-//! else. It works on sequences of single bits and single intervals and looks
+//! "Numbers of refused calls", "Examples") and the C header. It works on sequences of single bits and single intervals and looks
 //! tracks up in a dictionary, so that it shares no way of working with the
 //! library. Clear, not fast.
 

@@ -8,6 +8,8 @@ pub mod Bytes
 pub mod LengthWays
 pub mod Parts
 pub mod DecodeWays
+pub mod OneOf4
+pub mod OneOf256
 pub mod Coded
 pub mod RoundTrip
 pub mod Inverse

@@ -41,7 +41,8 @@ put-bytes-requires c κs =
     let args = c .before .before .before .before .before .before .before .before .args in
     let length-as = c .before .before .length-as in
     let third = c .before .if3 in
-    ((units-of-length 0 (args .track .now) (length-as .result) (length-as .ensures) (third .taken)) .within, ((units-of-length 0 (args .track .now) (length-as .result) (length-as .ensures) (third .taken)) .bytes, omega arith))
+    let units = units-of-length 0 (args .track .now) (length-as .result) (length-as .ensures) (third .taken) in
+    (units .within, (units .bytes, omega arith))
 
 cast-result : tie.Need-cast-result
 cast-result c = search needs
@@ -59,7 +60,9 @@ returns-3 c =
     let first = c .before .before .before .before .before .before .before .before .if1 in
     let is-slot-mark = c .before .before .before .before .before .before .before .is-slot-mark in
     let second = c .before .before .before .before .before .before .if2 in
-    rw (toZ-pos w64 (length-as .result) (omega arith), put-bytes .ensures, (units-of-length 0 (args .track .now) (length-as .result) (length-as .ensures) (third .taken)) .count) (rw zero-add at (decodes-of-4 (args .track .now) (args .frame .now) (first .left) (sym (is-slot-mark .ensures) ∙ second .left) ((units-of-length 0 (args .track .now) (length-as .result) (length-as .ensures) (third .taken)) .track)))
+    let units = units-of-length 0 (args .track .now) (length-as .result) (length-as .ensures) (third .taken) in
+    rw (toZ-pos w64 (length-as .result) (omega arith), put-bytes .ensures, units .count)
+    (rw zero-add at (decodes-of-4 (args .track .now) (args .frame .now) (first .left) (sym (is-slot-mark .ensures) ∙ second .left) (units .track)))
 
 length-as-requires-2 : tie.Need-length-as-requires-2
 length-as-requires-2 c κs = search needs
@@ -70,7 +73,8 @@ put-bytes-requires-2 c κs =
     let args = c .before .before .before .before .before .before .before .before .before .before .args in
     let length-as2 = c .before .before .length-as2 in
     let fourth = c .before .if4 in
-    ((units-of-length 1 (args .track .now) (length-as2 .result) (length-as2 .ensures) (fourth .taken)) .within, ((units-of-length 1 (args .track .now) (length-as2 .result) (length-as2 .ensures) (fourth .taken)) .bytes, omega arith))
+    let units = units-of-length 1 (args .track .now) (length-as2 .result) (length-as2 .ensures) (fourth .taken) in
+    (units .within, (units .bytes, omega arith))
 
 add-result : tie.Need-add-result
 add-result c = search needs
@@ -93,7 +97,10 @@ returns-4 c =
     let second = c .before .before .before .before .before .before .before .before .if2 in
     let length-as = c .before .before .before .before .before .before .before .length-as in
     let third = c .before .before .before .before .before .before .if3 in
-    rw (toZ-pos w64 (65536 + length-as2 .result) (omega arith), put-bytes2 .ensures, (units-of-length 1 (args .track .now) (length-as2 .result) (length-as2 .ensures) (fourth .taken)) .count) (decodes-of-256 (args .track .now) (args .frame .now) (first .left) (sym (is-slot-mark .ensures) ∙ second .left) (no-track-of-length 0 (args .track .now) (rw (length-as .ensures) at (third .left))) ((units-of-length 1 (args .track .now) (length-as2 .result) (length-as2 .ensures) (fourth .taken)) .track))
+    let units = units-of-length 1 (args .track .now) (length-as2 .result) (length-as2 .ensures) (fourth .taken) in
+    rw (toZ-pos w64 (65536 + length-as2 .result) (omega arith), put-bytes2 .ensures, units .count)
+    (decodes-of-256 (args .track .now) (args .frame .now) (first .left) (sym (is-slot-mark .ensures) ∙ second .left)
+    (no-track-of-length 0 (args .track .now) (rw (length-as .ensures) at (third .left))) (units .track))
 
 returns-5 : tie.Need-returns-5
 unfolding frameOf longest
@@ -106,7 +113,9 @@ returns-5 c =
     let third = c .before .before .if3 in
     let length-as2 = c .before .length-as2 in
     let fourth = c .if4 in
-    decodes-no-track (args .track .now) (args .frame .now) (first .left) (sym (is-slot-mark .ensures) ∙ second .left) (no-track-of-length 0 (args .track .now) (rw (length-as .ensures) at (third .left))) (no-track-of-length 1 (args .track .now) (rw (length-as2 .ensures) at (fourth .left)))
+    decodes-no-track (args .track .now) (args .frame .now) (first .left) (sym (is-slot-mark .ensures) ∙ second .left)
+    (no-track-of-length 0 (args .track .now) (rw (length-as .ensures) at (third .left)))
+    (no-track-of-length 1 (args .track .now) (rw (length-as2 .ensures) at (fourth .left)))
 
 pub decode-spec : {M : Type 1} → statement M
 decode-spec =

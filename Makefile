@@ -1,0 +1,33 @@
+# Short commands. `make` alone lists them.
+
+lib := target/staticlib/libboard.a
+c99 := -std=c99 -Wall -Wextra -Werror -pedantic
+
+.PHONY: help lib demo test compare bench
+
+help:
+	@echo 'make demo     build the library, code an inventory request from C and decode it back'
+	@echo 'make lib      prove the library and write $(lib)'
+	@echo 'make test     the whole gate: every proof, every must-fail edit, every comparison'
+	@echo 'make compare  hold the library against the independent implementation'
+	@echo 'make bench    time the library beside a plain C program'
+
+lib:
+	rt staticlib board
+
+demo: lib
+	mkdir -p target/c
+	$(CC) $(c99) -O2 -Iinclude -o target/c/demo examples/inventory.c $(lib)
+	target/c/demo
+
+test:
+	bash .ci/run
+
+# The archive must stand: `make lib` makes it.
+compare:
+	BOARD_LIB_DIR='$(CURDIR)/target/staticlib' CARGO_TARGET_DIR='$(CURDIR)/target/independent' \
+	    cargo build --quiet --release --offline --manifest-path independent/Cargo.toml
+	VECTORS_DIR='$(CURDIR)/vectors' target/independent/release/comparison
+
+bench: lib
+	bench/run

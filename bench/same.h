@@ -1,0 +1,14 @@
+/* A benchmark of two programs that do different things says nothing: these end
+ * the run with a message where the library and plain C differ. */
+#ifndef SAME_H
+#define SAME_H
+
+#include <stdint.h>
+
+/* A frame of EK_FRAME_MAX bytes and its first bytes: check, track and back. */
+void must_be_same(const uint8_t *frame);
+
+/* Short rooms, wrong codings, tracks cut short and tracks damaged. */
+void must_refuse_same(const uint8_t *frame);
+
+#endif
