@@ -1,0 +1,77 @@
+-- 01, The card, step 3: "b3=1".
+use Prim.Native.Nat.{ℕ, _+_, _/_, _%_, _^_}
+use mathlib.Core.Bool.{Bool, true, false, cond, not, _&&_, _||_}
+use mathlib.Core.List.{List}
+use lib.Dec.{leb, eqb}
+use lib.ListN.{length, getD}
+use Rattle.frames.specs.declared.Flags.{Flags}
+use Rattle.frames.specs.Field.{fieldAt}
+use Rattle.card.specs.declared.Card.{Card}
+use Rattle.card.specs.declared.Turn.{Turn}
+use Rattle.card.specs.declared.Reply.{Reply}
+use Rattle.card.specs.declared.Reply.the-variants.{Silence, Present}
+use Rattle.card.specs.declared.Sequence.the-variants.{Running}
+use Rattle.card.specs.Record.{isQuiet, inSequence}
+
+abbrev pub turn : Card → Reply → Turn
+turn c reply = record { card = c; reply = reply }
+
+-- silence: nothing but what any frame does
+abbrev pub still : Card → Turn
+still c = turn c Silence
+
+-- "Body: AFI if present, mask length, then the mask in as few bytes as hold it.": the place of the mask length, and the mask's bytes
+unfoldable pub lengthPlace : Flags → ℕ
+lengthPlace f = cond (f .b5) 3 2
+
+unfoldable pub maskBytes : ℕ → ℕ
+maskBytes n = (n + 7) / 8
+
+-- "mask length over 60 (sixteen slots) or 64 (one)"
+unfoldable pub maskLimit : Flags → ℕ
+maskLimit f = cond (f .b6) 64 60
+
+-- "Bits above the mask length are ignored."
+unfoldable pub maskOf : Flags → List ℕ → ℕ → ℕ
+maskOf f frame n = fieldAt frame (lengthPlace f + 1) (maskBytes n) % 2 ^ n
+
+-- the total: flags, command, AFI if present, mask length, mask, check
+unfoldable pub totalLength : Flags → ℕ → ℕ
+totalLength f n = lengthPlace f + 1 + maskBytes n + 2
+
+-- "The card takes part if no AFI is present, the AFI is 00, or it equals the card's"
+unfoldable pub fitsFamily : ℕ → ℕ → Bool
+fitsFamily asked own = eqb asked 0x00 || eqb asked own
+
+unfoldable pub takesPart : Card → Flags → List ℕ → Bool
+takesPart c f frame = cond (f .b5) (fitsFamily (getD frame 2 0) (c .afi)) true
+
+-- "With one slot only the mask counts."
+unfoldable pub fitsMask : ℕ → ℕ → ℕ → Bool
+fitsMask uid n mask = eqb (uid % 2 ^ n) mask
+
+-- "the card answers in slot s when its low (length + 4) UID bits are s above the mask": the mask, and the digit above it
+unfoldable pub fitsSlot : ℕ → ℕ → ℕ → ℕ → Bool
+fitsSlot uid n mask slot = fitsMask uid n mask && eqb (uid / 2 ^ n % 16) slot
+
+unfoldable pub present : Bool → Reply
+present true = Present
+present false = Silence
+
+-- a card that takes part: with one slot the mask alone; "With sixteen slots a sequence starts at slot 0"
+unfoldable pub joins : Card → Flags → List ℕ → ℕ → Turn
+joins c f frame n =
+    cond (f .b6)
+    (turn c (present (fitsMask (c .uid) n (maskOf f frame n))))
+    (turn (inSequence (Running 0 n (maskOf f frame n)) c) (present (fitsSlot (c .uid) n (maskOf f frame n) 0)))
+
+-- "Quiet, a command other than 01, mask length over .., or a wrong total length: silence"; b7 must be 0 (step 2)
+unfoldable pub isInventory : Card → Flags → List ℕ → ℕ → Bool
+isInventory c f frame n =
+    not (f .b7)
+    && (not (isQuiet (c .mode)) && (eqb (getD frame 1 0) 0x01 && (leb n (maskLimit f) && eqb (length frame) (totalLength f n))))
+
+unfoldable pub inventoried : Card → Flags → List ℕ → Turn
+inventoried c f frame =
+    let n : ℕ = getD frame (lengthPlace f) 0 in
+    cond (isInventory c f frame n && takesPart c f frame) (joins c f frame n) (still c)

@@ -1,0 +1,5 @@
+pub mod Record
+pub mod Inventory
+pub mod Mark
+pub mod Request
+pub mod Frame

@@ -1,0 +1,89 @@
+// The card's record and its rules: what a frame, a slot mark and power off make of a card. Memory, lock bytes and answer are the crate play's.
+ghost use mathlib.Core.Path.{_≡_};
+
+// Ready answers, Quiet is silent unless addressed, Selected answers to Select.
+pub enum Mode {
+    Ready,
+    Quiet,
+    Selected,
+}
+
+// A slot sequence: its slot, the length of its mask in bits, and the mask.
+pub enum Sequence {
+    Idle,
+    Running(u8, u8, u64),
+}
+
+// An answer that waits for a slot mark.
+pub enum Held {
+    Free,
+    Success,
+    Code(u8),
+}
+
+pub struct Card {
+    pub blocks: u32,
+    pub size: u32,
+    pub uid: u64,
+    pub afi: u8,
+    pub dsfid: u8,
+    pub afi_locked: bool,
+    pub dsfid_locked: bool,
+    pub ic_reference: u8,
+    pub mode: Mode,
+    pub sequence: Sequence,
+    pub held: Held,
+}
+
+// What a card answers. Blocks and Status hold the first block and how many; Blocks also whether each comes with its lock byte.
+pub enum Reply {
+    Silence,
+    Error(u8),
+    Done,
+    Present,
+    Blocks(u32, u32, bool),
+    Status(u32, u32),
+    Information,
+}
+
+// What a frame does to memory and locks: nothing, the data at a place of the frame into a block, or a block locked.
+pub enum Effect {
+    Leave,
+    Write(u32, u32),
+    Lock(u32),
+}
+
+// What a frame or a mark makes of a record, and what is answered.
+pub struct Turn {
+    pub card: Card,
+    pub reply: Reply,
+}
+
+// The same with what becomes of memory and locks.
+pub struct Deed {
+    pub card: Card,
+    pub effect: Effect,
+    pub reply: Reply,
+}
+
+impl Card {
+    // Any frame first ends the sequence and drops a held answer.
+    fn cleared(self) -> Card
+        ensures { λ r. ⌜ r .uid ≡ self .uid ⌝ }
+    {
+        let m = self.mode;
+        Card {
+            blocks: self.blocks,
+            size: self.size,
+            uid: self.uid,
+            afi: self.afi,
+            dsfid: self.dsfid,
+            afi_locked: self.afi_locked,
+            dsfid_locked: self.dsfid_locked,
+            ic_reference: self.ic_reference,
+            mode: m,
+            sequence: Sequence::Idle,
+            held: Held::Free,
+        }
+    }
+}
