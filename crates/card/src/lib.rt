@@ -1,5 +1,9 @@
 // The card's record and its rules: what a frame, a slot mark and power off make of a card. Memory, lock bytes and answer are the crate play's.
-ghost use mathlib.Core.Path.{_≡_};
+pub mod frame;
+pub mod inventory;
+pub mod mark;
+pub mod record;
+pub mod request;
 
 // Ready answers, Quiet is silent unless addressed, Selected answers to Select.
 pub enum Mode {
@@ -46,7 +50,7 @@ pub enum Reply {
     Information,
 }
 
-// What a frame does to memory and locks: nothing, the data at a place of the frame into a block, or a block locked.
+// What a frame does to memory and locks: nothing, into a block the data at a place of the frame, or a block locked.
 pub enum Effect {
     Leave,
     Write(u32, u32),
@@ -64,26 +68,4 @@ pub struct Deed {
     pub card: Card,
     pub effect: Effect,
     pub reply: Reply,
-}
-
-impl Card {
-    // Any frame first ends the sequence and drops a held answer.
-    fn cleared(self) -> Card
-        ensures { λ r. ⌜ r .uid ≡ self .uid ⌝ }
-    {
-        let m = self.mode;
-        Card {
-            blocks: self.blocks,
-            size: self.size,
-            uid: self.uid,
-            afi: self.afi,
-            dsfid: self.dsfid,
-            afi_locked: self.afi_locked,
-            dsfid_locked: self.dsfid_locked,
-            ic_reference: self.ic_reference,
-            mode: m,
-            sequence: Sequence::Idle,
-            held: Held::Free,
-        }
-    }
 }

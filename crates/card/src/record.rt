@@ -1,0 +1,190 @@
+// The record: which ones are accepted, and each way in which it changes.
+ghost use mathlib.Core.Path.{_≡_};
+ghost use Prim.Native.Nat.{_^_};
+ghost use lib.Dec.{ltb};
+ghost use Rattle.card.specs.Record.{shapeFits, sequenceFits, heldFits, isAccepted, remade, cleared, inMode, inSequence, holding, withAfi, withDsfid, poweredOff, isQuiet, isSelected};
+
+use crate::{Card, Held, Mode, Sequence};
+
+fn shape_fits(blocks: u32, size: u32) -> bool
+    ensures { λ r. ⌜ r ≡ shapeFits blocks size ⌝ }
+{
+    if blocks < 1 {
+        return false;
+    }
+    if 256 < blocks {
+        return false;
+    }
+    if size < 1 {
+        return false;
+    }
+    size <= 32
+}
+
+// Whether no bit of a mask stands at its length or above. A length of 64 or more has room for all.
+pub(crate) fn is_below(mask: u64, n: u8) -> bool
+    ensures { λ r. ⌜ r ≡ ltb mask (2 ^ n) ⌝ }
+{
+    if 64 <= n {
+        return true;
+    }
+    mask < 1u64 << n
+}
+
+fn running_fits(slot: u8, n: u8, mask: u64) -> bool
+    ensures { λ r. ⌜ r ≡ sequenceFits (Sequence.Running slot n mask) ⌝ }
+{
+    if 15 < slot {
+        return false;
+    }
+    if 60 < n {
+        return false;
+    }
+    is_below(mask, n)
+}
+
+fn sequence_fits(sequence: Sequence) -> bool
+    ensures { λ r. ⌜ r ≡ sequenceFits sequence ⌝ }
+{
+    match sequence {
+        Sequence::Idle => true,
+        Sequence::Running(slot, n, mask) => running_fits(slot, n, mask),
+    }
+}
+
+fn code_fits(code: u8) -> bool
+    ensures { λ r. ⌜ r ≡ heldFits (Held.Code code) ⌝ }
+{
+    if code == 0x02 {
+        return true;
+    }
+    if code == 0x10 {
+        return true;
+    }
+    if code == 0x11 {
+        return true;
+    }
+    code == 0x12
+}
+
+fn held_fits(held: Held) -> bool
+    ensures { λ r. ⌜ r ≡ heldFits held ⌝ }
+{
+    match held {
+        Held::Free => true,
+        Held::Success => true,
+        Held::Code(code) => code_fits(code),
+    }
+}
+
+impl Card {
+    // Whether number 1 does not refuse the record.
+    pub fn is_accepted(self) -> bool
+        ensures { λ r. ⌜ r ≡ isAccepted self ⌝ }
+    {
+        let sequence = self.sequence;
+        let held = self.held;
+        if !shape_fits(self.blocks, self.size) {
+            return false;
+        }
+        if !sequence_fits(sequence) {
+            return false;
+        }
+        held_fits(held)
+    }
+
+    // Shape, UID and IC reference stay.
+    fn remade(self, afi: u8, dsfid: u8, afi_locked: bool, dsfid_locked: bool, mode: Mode, sequence: Sequence, held: Held) -> Card
+        ensures { λ r. ⌜ r ≡ remade self afi dsfid «afi_locked» «dsfid_locked» mode sequence held ⌝ }
+    {
+        Card {
+            blocks: self.blocks,
+            size: self.size,
+            uid: self.uid,
+            afi: afi,
+            dsfid: dsfid,
+            afi_locked: afi_locked,
+            dsfid_locked: dsfid_locked,
+            ic_reference: self.ic_reference,
+            mode: mode,
+            sequence: sequence,
+            held: held,
+        }
+    }
+
+    pub(crate) fn cleared(self) -> Card
+        ensures { λ r. ⌜ r ≡ cleared self ⌝ }
+    {
+        let mode = self.mode;
+        self.remade(self.afi, self.dsfid, self.afi_locked, self.dsfid_locked, mode, Sequence::Idle, Held::Free)
+    }
+
+    pub(crate) fn in_mode(self, mode: Mode) -> Card
+        ensures { λ r. ⌜ r ≡ inMode mode self ⌝ }
+    {
+        let sequence = self.sequence;
+        let held = self.held;
+        self.remade(self.afi, self.dsfid, self.afi_locked, self.dsfid_locked, mode, sequence, held)
+    }
+
+    pub(crate) fn in_sequence(self, sequence: Sequence) -> Card
+        ensures { λ r. ⌜ r ≡ inSequence sequence self ⌝ }
+    {
+        let mode = self.mode;
+        let held = self.held;
+        self.remade(self.afi, self.dsfid, self.afi_locked, self.dsfid_locked, mode, sequence, held)
+    }
+
+    pub(crate) fn holding(self, held: Held) -> Card
+        ensures { λ r. ⌜ r ≡ holding held self ⌝ }
+    {
+        let mode = self.mode;
+        let sequence = self.sequence;
+        self.remade(self.afi, self.dsfid, self.afi_locked, self.dsfid_locked, mode, sequence, held)
+    }
+
+    pub(crate) fn with_afi(self, afi: u8, locked: bool) -> Card
+        ensures { λ r. ⌜ r ≡ withAfi afi locked self ⌝ }
+    {
+        let mode = self.mode;
+        let sequence = self.sequence;
+        let held = self.held;
+        self.remade(afi, self.dsfid, locked, self.dsfid_locked, mode, sequence, held)
+    }
+
+    pub(crate) fn with_dsfid(self, dsfid: u8, locked: bool) -> Card
+        ensures { λ r. ⌜ r ≡ withDsfid dsfid locked self ⌝ }
+    {
+        let mode = self.mode;
+        let sequence = self.sequence;
+        let held = self.held;
+        self.remade(self.afi, dsfid, self.afi_locked, locked, mode, sequence, held)
+    }
+
+    // Power off: what is lost with it.
+    pub fn power_off(self) -> Card
+        ensures { λ r. ⌜ r ≡ poweredOff self ⌝ }
+    {
+        self.cleared().in_mode(Mode::Ready)
+    }
+}
+
+pub(crate) fn is_quiet(mode: Mode) -> bool
+    ensures { λ r. ⌜ r ≡ isQuiet mode ⌝ }
+{
+    match mode {
+        Mode::Ready => false,
+        Mode::Quiet => true,
+        Mode::Selected => false,
+    }
+}
+
+pub(crate) fn is_selected(mode: Mode) -> bool
+    ensures { λ r. ⌜ r ≡ isSelected mode ⌝ }
+{
+    match mode {
+        Mode::Ready => false,
+        Mode::Quiet => false,
+        Mode::Selected => true,
+    }
+}

@@ -1,0 +1,27 @@
+-- Effects and replies that stay within the card's shape: those that the rules decide on for an accepted card.
+use Prim.Native.Nat.{ℕ, _+_}
+use mathlib.Core.Bool.{Bool, true, _&&_}
+use mathlib.Core.List.{List}
+use lib.Dec.{leb, ltb}
+use lib.ListN.{length}
+use Rattle.card.specs.declared.Card.{Card}
+use Rattle.card.specs.declared.Effect.{Effect}
+use Rattle.card.specs.declared.Effect.the-variants.{Leave, Write, Lock}
+use Rattle.card.specs.declared.Reply.{Reply}
+use Rattle.card.specs.declared.Reply.the-variants.{Silence, Error, Done, Present, Blocks, Status, Information}
+
+-- the block is one of the card's, and the data stand in the frame
+unfoldable pub effectFits : Card → List ℕ → Effect → Bool
+effectFits c frame Leave = true
+effectFits c frame (Write block place) = ltb block (c .blocks) && leb (place + c .size) (length frame)
+effectFits c frame (Lock block) = ltb block (c .blocks)
+
+-- the blocks are the card's
+unfoldable pub replyFits : Card → Reply → Bool
+replyFits c Silence = true
+replyFits c (Error code) = true
+replyFits c Done = true
+replyFits c Present = true
+replyFits c (Blocks first n option) = leb (first + n) (c .blocks)
+replyFits c (Status first n) = leb (first + n) (c .blocks)
+replyFits c Information = true

@@ -1,0 +1,4 @@
+pub mod Refusal
+pub mod Answer
+pub mod Effects
+pub mod Fits
