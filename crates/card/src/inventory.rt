@@ -1,1 +1,167 @@
-// .
+// An inventory request: who takes part, and who answers at once.
+ghost use mathlib.Core.Path.{_≡_};
+ghost use Prim.Native.Nat.{_+_, _%_, _/_, _^_};
+ghost use lib.ListN.{getD};
+ghost use lib.Dec.{eqb};
+ghost use Rattle.card.specs.Inventory.{lengthPlace, maskBytes, maskLimit, maskOf, totalLength, fitsFamily, takesPart, fitsMask, fitsSlot, present, joins, isInventory, inventoried};
+
+use crate::record::is_quiet;
+use crate::{Card, Reply, Sequence, Turn};
+use frames::Flags;
+
+// The byte at a place of a frame, or 0 past its end.
+pub(crate) fn byte_at(frame: &[u8], at: usize) -> u8
+    ensures { λ r. ⌜ r ≡ getD (now (frame .entry)) at 0 ⌝ }
+{
+    if at < frame.len() {
+        frame[at]
+    } else {
+        0
+    }
+}
+
+// The low n bits of a number.
+fn low_bits(v: u64, n: u8) -> u64
+    ensures { λ r. ⌜ r ≡ v % 2 ^ n ⌝ }
+{
+    if 64 <= n {
+        return v;
+    }
+    v % (1u64 << n)
+}
+
+// A number without its low n bits.
+fn high_bits(v: u64, n: u8) -> u64
+    ensures { λ r. ⌜ r ≡ v / 2 ^ n ⌝ }
+{
+    if 64 <= n {
+        return 0;
+    }
+    v >> n
+}
+
+fn length_place(f: Flags) -> usize
+    ensures { λ r. ⌜ r ≡ lengthPlace f ⌝ }
+{
+    if f.b5 { 3 } else { 2 }
+}
+
+fn mask_bytes(n: u8) -> usize
+    ensures { λ r. ⌜ r ≡ maskBytes n ⌝ }
+{
+    ((n as usize) + 7) / 8
+}
+
+fn mask_limit(f: Flags) -> u8
+    ensures { λ r. ⌜ r ≡ maskLimit f ⌝ }
+{
+    if f.b6 { 64 } else { 60 }
+}
+
+fn mask_of(f: Flags, frame: &[u8], n: u8) -> u64
+    ensures { λ r. ⌜ r ≡ maskOf f (now (frame .entry)) n ⌝ }
+{
+    let at = length_place(f);
+    low_bits(frames::field(frame, at + 1, mask_bytes(n)), n)
+}
+
+fn total_length(f: Flags, n: u8) -> usize
+    ensures { λ r. ⌜ r ≡ totalLength f n ⌝ }
+{
+    length_place(f) + 1 + mask_bytes(n) + 2
+}
+
+// Whether a card of a family answers an asked one.
+fn fits_family(asked: u8, own: u8) -> bool
+    ensures { λ r. ⌜ r ≡ fitsFamily asked own ⌝ }
+{
+    asked == 0x00 || asked == own
+}
+
+fn takes_part(card: Card, f: Flags, frame: &[u8]) -> bool
+    ensures { λ r. ⌜ r ≡ takesPart card f (now (frame .entry)) ⌝ }
+{
+    if f.b5 {
+        fits_family(byte_at(frame, 2), card.afi)
+    } else {
+        true
+    }
+}
+
+fn fits_mask(uid: u64, n: u8, mask: u64) -> bool
+    ensures { λ r. ⌜ r ≡ fitsMask uid n mask ⌝ }
+{
+    low_bits(uid, n) == mask
+}
+
+pub(crate) fn fits_slot(uid: u64, n: u8, mask: u64, slot: u8) -> bool
+    ensures { λ r. ⌜ r ≡ fitsSlot uid n mask slot ⌝ }
+{
+    if fits_mask(uid, n, mask) {
+        high_bits(uid, n) % 16 == slot as u64
+    } else {
+        false
+    }
+}
+
+pub(crate) fn present_if(fits: bool) -> Reply
+    ensures { λ r. ⌜ r ≡ present fits ⌝ }
+{
+    if fits { Reply::Present } else { Reply::Silence }
+}
+
+fn joining(card: Card, f: Flags, frame: &[u8], n: u8) -> Turn
+    ensures { λ r. ⌜ r ≡ joins card f (now (frame .entry)) n ⌝ }
+{
+    let mask = mask_of(f, frame, n);
+    if f.b6 {
+        Turn {
+            card: card,
+            reply: present_if(fits_mask(card.uid, n, mask)),
+        }
+    } else {
+        Turn {
+            card: card.in_sequence(Sequence::Running(0, n, mask)),
+            reply: present_if(fits_slot(card.uid, n, mask, 0)),
+        }
+    }
+}
+
+fn is_inventory(card: Card, f: Flags, frame: &[u8], n: u8) -> bool
+    ensures { λ r. ⌜ r ≡ isInventory card f (now (frame .entry)) n ⌝ }
+{
+    let mode = card.mode;
+    if f.b7 {
+        return false;
+    }
+    if is_quiet(mode) {
+        return false;
+    }
+    if byte_at(frame, 1) != 0x01 {
+        return false;
+    }
+    if mask_limit(f) < n {
+        return false;
+    }
+    frame.len() == total_length(f, n)
+}
+
+pub(crate) fn inventory(card: Card, f: Flags, frame: &[u8]) -> Turn
+    ensures { λ r. ⌜ r ≡ inventoried card f (now (frame .entry)) ⌝ }
+{
+    let n = byte_at(frame, length_place(f));
+    if !is_inventory(card, f, frame, n) {
+        return Turn {
+            card: card,
+            reply: Reply::Silence,
+        };
+    }
+    if takes_part(card, f, frame) {
+        joining(card, f, frame, n)
+    } else {
+        Turn {
+            card: card,
+            reply: Reply::Silence,
+        }
+    }
+}

@@ -1,0 +1,29 @@
+use borrow.Author.Needs.{needs}
+use mathlib.Core.Path.{sym}
+use native.Mathlib.Omega.{arith}
+use native.Mathlib.Nat.{mod-eq-of-lt}
+use lib.Pow.{pow-pos}
+use Rattle.card.proofs.Bits.{below-power, bit-at}
+use Rattle.card.proofs.inventory.low_bits.Statement.{statement}
+use Rattle.card.proofs.inventory.low_bits.Tie as tie
+use Rattle.card.proofs.inventory.low_bits.Reads as reads
+use Rattle.card.proofs.inventory.low_bits.Lts as lts
+
+-- src/inventory.rt:28:9
+returns : tie.Need-returns
+returns c = sym (mod-eq-of-lt (below-power _ _ (omega arith) (c .if1 .taken)))
+
+-- src/inventory.rt:30:10
+shl-result : tie.Need-shl-result
+shl-result c = search needs
+
+-- src/inventory.rt:30:5
+rem-result : tie.Need-rem-result
+rem-result c = rw (bit-at _ (c .if1 .left)) (pow-pos _)
+
+-- src/inventory.rt:24:1
+returns-2 : tie.Need-returns-2
+returns-2 c = rw (bit-at _ (c .if1 .left))
+
+pub low-bits-spec : {M : Type 1} → statement M
+low-bits-spec = tie.close (tie.spec returns shl-result rem-result returns-2)
