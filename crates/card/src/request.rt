@@ -1,1 +1,237 @@
-// .
+// Every other request: to whom it goes, its faults in order, and the table of commands.
+ghost use mathlib.Core.Path.{_≡_};
+ghost use Prim.Native.Nat.{_+_, _≤_};
+ghost use Rattle.card.specs.Request.{deed, silent, fault, done, failed, isLocked, reads, writes, locks-block, writes-afi, writes-dsfid, locks-afi, locks-dsfid, tells-locks, commanded, isListed, bodyAsked, refusesOption, holdsAnswer, bodyLength, judged, quieted, sorted, passedBy, addressed, unaddressed, requested};
+
+use crate::inventory::byte_at;
+use crate::record::{is_quiet, is_selected};
+use crate::{Card, Deed, Effect, Held, Mode, Reply};
+use frames::Flags;
+
+pub(crate) fn silence(card: Card) -> Deed
+    ensures { λ r. ⌜ r ≡ silent card ⌝ }
+{
+    Deed {
+        card: card,
+        effect: Effect::Leave,
+        reply: Reply::Silence,
+    }
+}
+
+fn answer(card: Card, reply: Reply) -> Deed
+    ensures { λ r. ⌜ r ≡ deed card Effect.Leave reply ⌝ }
+{
+    Deed {
+        card: card,
+        effect: Effect::Leave,
+        reply: reply,
+    }
+}
+
+// Success, at once or held.
+fn succeed(hold: bool, card: Card, effect: Effect) -> Deed
+    ensures { λ r. ⌜ r ≡ done hold card effect ⌝ }
+{
+    if hold {
+        Deed {
+            card: card.holding(Held::Success),
+            effect: effect,
+            reply: Reply::Silence,
+        }
+    } else {
+        Deed {
+            card: card,
+            effect: effect,
+            reply: Reply::Done,
+        }
+    }
+}
+
+// An error code, at once or held.
+fn fail(hold: bool, card: Card, code: u8) -> Deed
+    ensures { λ r. ⌜ r ≡ failed hold card code ⌝ }
+{
+    if hold {
+        silence(card.holding(Held::Code(code)))
+    } else {
+        answer(card, Reply::Error(code))
+    }
+}
+
+fn is_locked(locks: &[u8], block: u8) -> bool
+    ensures { λ r. ⌜ r ≡ isLocked (now (locks .entry)) block ⌝ }
+{
+    byte_at(locks, block as usize) != 0
+}
+
+fn read(card: Card, option: bool, first: u8, n: u8) -> Deed
+    ensures { λ r. ⌜ r ≡ reads card option first n ⌝ }
+{
+    let from = first as u32;
+    let more = n as u32;
+    if from + more < card.blocks {
+        answer(card, Reply::Blocks(from, more + 1, option))
+    } else {
+        answer(card, Reply::Error(0x10))
+    }
+}
+
+fn write(card: Card, locks: &[u8], option: bool, block: u8, place: u32) -> Deed
+    ensures { λ r. ⌜ r ≡ writes card (now (locks .entry)) option block place ⌝ }
+{
+    let at = block as u32;
+    if at < card.blocks {
+        if is_locked(locks, block) {
+            fail(option, card, 0x12)
+        } else {
+            succeed(option, card, Effect::Write(at, place))
+        }
+    } else {
+        fail(option, card, 0x10)
+    }
+}
+
+fn lock(card: Card, locks: &[u8], option: bool, block: u8) -> Deed
+    ensures { λ r. ⌜ r ≡ locks-block card (now (locks .entry)) option block ⌝ }
+{
+    let at = block as u32;
+    if at < card.blocks {
+        if is_locked(locks, block) {
+            fail(option, card, 0x11)
+        } else {
+            succeed(option, card, Effect::Lock(at))
+        }
+    } else {
+        fail(option, card, 0x10)
+    }
+}
+
+fn write_afi(card: Card, option: bool, value: u8) -> Deed
+    ensures { λ r. ⌜ r ≡ writes-afi card option value ⌝ }
+{
+    if card.afi_locked {
+        fail(option, card, 0x12)
+    } else {
+        succeed(option, card.with_afi(value, false), Effect::Leave)
+    }
+}
+
+fn write_dsfid(card: Card, option: bool, value: u8) -> Deed
+    ensures { λ r. ⌜ r ≡ writes-dsfid card option value ⌝ }
+{
+    if card.dsfid_locked {
+        fail(option, card, 0x12)
+    } else {
+        succeed(option, card.with_dsfid(value, false), Effect::Leave)
+    }
+}
+
+fn lock_afi(card: Card, option: bool) -> Deed
+    ensures { λ r. ⌜ r ≡ locks-afi card option ⌝ }
+{
+    if card.afi_locked {
+        fail(option, card, 0x11)
+    } else {
+        succeed(option, card.with_afi(card.afi, true), Effect::Leave)
+    }
+}
+
+fn lock_dsfid(card: Card, option: bool) -> Deed
+    ensures { λ r. ⌜ r ≡ locks-dsfid card option ⌝ }
+{
+    if card.dsfid_locked {
+        fail(option, card, 0x11)
+    } else {
+        succeed(option, card.with_dsfid(card.dsfid, true), Effect::Leave)
+    }
+}
+
+fn status(card: Card, first: u8, n: u8) -> Deed
+    ensures { λ r. ⌜ r ≡ tells-locks card first n ⌝ }
+{
+    let from = first as u32;
+    let more = n as u32;
+    if from + more < card.blocks {
+        answer(card, Reply::Status(from, more + 1))
+    } else {
+        answer(card, Reply::Error(0x10))
+    }
+}
+
+fn is_listed(command: u8) -> bool
+    ensures { λ r. ⌜ r ≡ isListed command ⌝ }
+{
+    if command < 0x20 {
+        return false;
+    }
+    if 0x2c < command {
+        return false;
+    }
+    command != 0x24
+}
+
+fn body_asked(command: u8, size: u32) -> usize
+    ensures { λ r. ⌜ r ≡ bodyAsked command size ⌝ }
+{
+    if command == 0x20 {
+        return 1;
+    }
+    if command == 0x22 {
+        return 1;
+    }
+    if command == 0x27 {
+        return 1;
+    }
+    if command == 0x29 {
+        return 1;
+    }
+    if command == 0x21 {
+        return 1 + (size as usize);
+    }
+    if command == 0x23 {
+        return 2;
+    }
+    if command == 0x2c { 2 } else { 0 }
+}
+
+fn refuses_option(command: u8) -> bool
+    ensures { λ r. ⌜ r ≡ refusesOption command ⌝ }
+{
+    if command == 0x25 {
+        return true;
+    }
+    if command == 0x26 {
+        return true;
+    }
+    if command == 0x2b {
+        return true;
+    }
+    command == 0x2c
+}
+
+fn holds_answer(command: u8) -> bool
+    ensures { λ r. ⌜ r ≡ holdsAnswer command ⌝ }
+{
+    if command == 0x21 {
+        return true;
+    }
+    if command == 0x22 {
+        return true;
+    }
+    if command < 0x27 {
+        return false;
+    }
+    command <= 0x2a
+}
+
+fn body_length(frame: &[u8], at: usize) -> usize
+    requires { ⌜ at ≤ 10 ⌝ }
+    ensures { λ r. ⌜ r ≡ bodyLength (now (frame .entry)) at ⌝ }
+{
+    let n = frame.len();
+    if at + 2 <= n {
+        n - (at + 2)
+    } else {
+        0
+    }
+}
