@@ -1,5 +1,7 @@
 // Every other request: to whom it goes, its faults in order, and the table of commands.
 ghost use mathlib.Core.Path.{_≡_};
+ghost use mathlib.Core.Bool.{cond, not, _&&_};
+ghost use Rattle.card.specs.Record.{isQuiet, isSelected};
 ghost use Prim.Native.Nat.{_+_, _≤_};
 ghost use Rattle.card.specs.Request.{deed, silent, fault, done, failed, isLocked, reads, writes, locks-block, writes-afi, writes-dsfid, locks-afi, locks-dsfid, tells-locks, commanded, isListed, bodyAsked, refusesOption, holdsAnswer, bodyLength, judged, quieted, sorted, passedBy, addressed, unaddressed, requested};
 
@@ -233,5 +235,137 @@ fn body_length(frame: &[u8], at: usize) -> usize
         n - (at + 2)
     } else {
         0
+    }
+}
+
+pub(crate) fn both(a: bool, b: bool) -> bool
+    ensures { λ r. ⌜ r ≡ (a && b) ⌝ }
+{
+    if a { b } else { false }
+}
+
+// The table, command by command. The body stands at a place of the frame.
+fn perform(card: Card, locks: &[u8], option: bool, frame: &[u8], at: usize, command: u8) -> Deed
+    requires { ⌜ at ≤ 10 ⌝ }
+    ensures { λ r. ⌜ r ≡ commanded card (now (locks .entry)) option (now (frame .entry)) at command ⌝ }
+{
+    let first = byte_at(frame, at);
+    let second = byte_at(frame, at + 1);
+    let place = (at + 1) as u32;
+    match command {
+        0x20 => read(card, option, first, 0),
+        0x21 => write(card, locks, option, first, place),
+        0x22 => lock(card, locks, option, first),
+        0x23 => read(card, option, first, second),
+        0x25 => answer(card.in_mode(Mode::Selected), Reply::Done),
+        0x26 => answer(card.in_mode(Mode::Ready), Reply::Done),
+        0x27 => write_afi(card, option, first),
+        0x28 => lock_afi(card, option),
+        0x29 => write_dsfid(card, option, first),
+        0x2a => lock_dsfid(card, option),
+        0x2b => answer(card, Reply::Information),
+        _ => status(card, first, second),
+    }
+}
+
+// The faults that come before the table, in their order.
+fn judge(card: Card, locks: &[u8], f: Flags, frame: &[u8], at: usize, command: u8) -> Deed
+    requires { ⌜ at ≤ 10 ⌝ }
+    ensures { λ r. ⌜ r ≡ judged card (now (locks .entry)) f (now (frame .entry)) at command ⌝ }
+{
+    if !is_listed(command) {
+        return answer(card, Reply::Error(0x01));
+    }
+    if body_length(frame, at) != body_asked(command, card.size) {
+        return fail(both(f.b7, holds_answer(command)), card, 0x02);
+    }
+    if both(f.b7, refuses_option(command)) {
+        return answer(card, Reply::Error(0x03));
+    }
+    perform(card, locks, f.b7, frame, at, command)
+}
+
+fn quiet(card: Card, f: Flags, frame: &[u8], at: usize) -> Deed
+    requires { ⌜ at ≤ 10 ⌝ }
+    ensures { λ r. ⌜ r ≡ quieted card f (now (frame .entry)) at ⌝ }
+{
+    if both(f.b6, body_length(frame, at) == 0) {
+        silence(card.in_mode(Mode::Quiet))
+    } else {
+        silence(card)
+    }
+}
+
+fn sort(card: Card, locks: &[u8], f: Flags, frame: &[u8], at: usize) -> Deed
+    requires { ⌜ at ≤ 10 ⌝ }
+    ensures { λ r. ⌜ r ≡ sorted card (now (locks .entry)) f (now (frame .entry)) at ⌝ }
+{
+    let command = byte_at(frame, 1);
+    if command == 0x02 {
+        return quiet(card, f, frame, at);
+    }
+    if both(command == 0x25, !f.b6) {
+        return silence(card);
+    }
+    judge(card, locks, f, frame, at, command)
+}
+
+fn pass_by(card: Card, command: u8) -> Deed
+    ensures { λ r. ⌜ r ≡ passedBy card command ⌝ }
+{
+    let mode = card.mode;
+    if both(command == 0x25, is_selected(mode)) {
+        silence(card.in_mode(Mode::Ready))
+    } else {
+        silence(card)
+    }
+}
+
+fn by_address(card: Card, locks: &[u8], f: Flags, frame: &[u8]) -> Deed
+    ensures { λ r. ⌜ r ≡ addressed card (now (locks .entry)) f (now (frame .entry)) ⌝ }
+{
+    if frame.len() < 12 {
+        return silence(card);
+    }
+    if frames::field(frame, 2, 8) == card.uid {
+        sort(card, locks, f, frame, 10)
+    } else {
+        pass_by(card, byte_at(frame, 1))
+    }
+}
+
+// Whether a request with no address goes on: with Select for a Selected card alone, else for all but a Quiet one.
+fn goes_on(select: bool, mode: Mode) -> bool
+    ensures { λ r. ⌜ r ≡ cond select (isSelected mode) (not (isQuiet mode)) ⌝ }
+{
+    if select {
+        is_selected(mode)
+    } else {
+        !is_quiet(mode)
+    }
+}
+
+fn by_mode(card: Card, locks: &[u8], f: Flags, frame: &[u8]) -> Deed
+    ensures { λ r. ⌜ r ≡ unaddressed card (now (locks .entry)) f (now (frame .entry)) ⌝ }
+{
+    let mode = card.mode;
+    if goes_on(f.b5, mode) {
+        sort(card, locks, f, frame, 2)
+    } else {
+        silence(card)
+    }
+}
+
+pub(crate) fn request(card: Card, locks: &[u8], f: Flags, frame: &[u8]) -> Deed
+    ensures { λ r. ⌜ r ≡ requested card (now (locks .entry)) f (now (frame .entry)) ⌝ }
+{
+    if f.b6 {
+        if f.b5 {
+            silence(card)
+        } else {
+            by_address(card, locks, f, frame)
+        }
+    } else {
+        by_mode(card, locks, f, frame)
     }
 }
