@@ -25,3 +25,9 @@ replyFits c Present = true
 replyFits c (Blocks first n option) = leb (first + n) (c .blocks)
 replyFits c (Status first n) = leb (first + n) (c .blocks)
 replyFits c Information = true
+
+-- the block to lock is one of so many
+unfoldable pub lockFits : ℕ → Effect → Bool
+lockFits blocks Leave = true
+lockFits blocks (Write block place) = true
+lockFits blocks (Lock block) = ltb block blocks

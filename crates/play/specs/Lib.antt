@@ -2,3 +2,5 @@ pub mod Refusal
 pub mod Answer
 pub mod Effects
 pub mod Fits
+pub mod Puts
+pub mod Events

@@ -1,0 +1,36 @@
+-- `play::refusal::room_fits` meets its contract, by its two tests; the product is small since the shape fits.
+-- Assumes nothing.
+use borrow.Author.Needs.{needs}
+use native.Mathlib.Omega.{arith}
+use borrow.Author.Tests.{le-leb, lt-leb}
+use Rattle.play.specs.Refusal.{roomFits}
+use Rattle.play.proofs.Shape.{shape-of}
+use Rattle.play.proofs.refusal.room_fits.Statement.{statement}
+use Rattle.play.proofs.refusal.room_fits.Tie as tie
+
+cast-blocks : tie.Need-cast-blocks
+cast-blocks c = search needs
+
+cast-size : tie.Need-cast-size
+cast-size c = search needs
+
+returns : tie.Need-returns
+unfolding roomFits
+returns c = rw (lt-leb _ _ (c .if1 .taken))
+
+add-result : tie.Need-add-result
+add-result c = search needs
+
+mul-result : tie.Need-mul-result
+mul-result c = omega (arith, shape-of _ _ (c .before .before .before .pre))
+
+add-result-2 : tie.Need-add-result-2
+add-result-2 c = omega (arith, shape-of _ _ (c .before .before .before .pre))
+
+returns-2 : tie.Need-returns-2
+unfolding roomFits
+returns-2 c = rw (le-leb _ _ (c .if1 .left))
+
+pub room-fits-spec : {M : Type 1} → statement M
+room-fits-spec =
+    tie.close (tie.spec cast-blocks cast-size returns add-result mul-result add-result-2 returns-2)

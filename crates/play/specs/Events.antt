@@ -1,0 +1,85 @@
+-- 01, The card: the three events, each with its refusals, what it makes of the record and of every lent byte, and its answer.
+use Prim.Native.Nat.{ℕ, _+_}
+use mathlib.Core.Bool.{cond}
+use mathlib.Core.List.{List}
+use mathlib.Core.Path.{_≡_}
+use lib.Dec.{eqb}
+use lib.IntN.{ℤ, pos}
+use lib.ListN.{length}
+use Rattle.lent.specs.Lent.{over, refused}
+use Rattle.crc.specs.Check.{sealed}
+use Rattle.card.specs.declared.Card.{Card}
+use Rattle.card.specs.declared.Deed.{Deed}
+use Rattle.card.specs.declared.Reply.{Reply}
+use Rattle.card.specs.declared.Reply.the-variants.{Silence}
+use Rattle.card.specs.Record.{poweredOff}
+use Rattle.card.specs.Mark.{marked}
+use Rattle.card.specs.Frame.{decided}
+use Rattle.play.specs.declared.Served.{Served}
+use Rattle.play.specs.Refusal.{refusal}
+use Rattle.play.specs.Answer.{replyBytes}
+use Rattle.play.specs.Effects.{memoryAfter, locksAfter}
+
+-- the number that a call gives back: the answer's length with its check, 0 for silence
+unfoldable pub lengthTold : List ℕ → ℤ
+lengthTold body = cond (eqb (length body) 0) (pos 0) (pos (length body + 2))
+
+-- "Silence leaves the answer buffer as found.": else the answer with its check, and the bytes past it as found
+unfoldable pub answered : List ℕ → List ℕ → List ℕ
+answered body found = cond (eqb (length body) 0) found (over (sealed body) found)
+
+-- all that a call leaves behind
+pub record Outcome : Type 0 where
+  pub card : Card
+  pub memory : List ℕ
+  pub locks : List ℕ
+  pub answer : List ℕ
+  pub number : ℤ
+
+-- a card with what it replies, over memory and locks as they now are
+unfoldable pub replied : Card → List ℕ → List ℕ → Reply → List ℕ → Outcome
+replied c memory locks reply found =
+    record {
+      card = c;
+      memory = memory;
+      locks = locks;
+      answer = answered (replyBytes c memory locks reply) found;
+      number = lengthTold (replyBytes c memory locks reply);
+    }
+
+-- "All change nothing."
+unfoldable pub unserved : Card → List ℕ → List ℕ → List ℕ → ℕ → Outcome
+unserved c memory locks found no = record { card = c; memory = memory; locks = locks; answer = found; number = refused no }
+
+-- "card, for each of the three events, 1, 2, 3, 4": refused, or served
+unfoldable pub event : Card → List ℕ → List ℕ → List ℕ → Outcome → Outcome
+event c memory locks found served =
+    let no : ℕ = refusal c (length memory) locks (length found) in
+    cond (eqb no 0) served (unserved c memory locks found no)
+
+unfoldable pub carriedOut : Deed → List ℕ → List ℕ → List ℕ → List ℕ → Outcome
+carriedOut d frame memory locks found =
+    replied (d .card) (memoryAfter (d .card) frame memory (d .effect)) (locksAfter locks (d .effect)) (d .reply) found
+
+unfoldable pub frameEvent : Card → List ℕ → List ℕ → List ℕ → List ℕ → Outcome
+frameEvent c frame memory locks found = event c memory locks found (carriedOut (decided c locks frame) frame memory locks found)
+
+unfoldable pub markEvent : Card → List ℕ → List ℕ → List ℕ → Outcome
+markEvent c memory locks found = event c memory locks found (replied (marked c .card) memory locks (marked c .reply) found)
+
+unfoldable pub offEvent : Card → List ℕ → List ℕ → List ℕ → Outcome
+offEvent c memory locks found = event c memory locks found (replied (poweredOff c) memory locks Silence found)
+
+-- what the three calls promise: what is returned, and every lent byte
+pub record Leaves (o : Outcome) (r : Served) (memory locks answer : List ℕ) : Type 0 where
+  pub card : r .card ≡ o .card
+  pub number : r .answer ≡ o .number
+  pub memory-left : memory ≡ o .memory
+  pub locks-left : locks ≡ o .locks
+  pub answer-left : answer ≡ o .answer
+
+-- the same for a reply alone, which leaves memory and locks
+pub record Replies (o : Outcome) (r : Served) (answer : List ℕ) : Type 0 where
+  pub card : r .card ≡ o .card
+  pub number : r .answer ≡ o .number
+  pub answer-left : answer ≡ o .answer

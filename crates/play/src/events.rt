@@ -1,0 +1,110 @@
+// A frame, a slot mark, power off.
+ghost use mathlib.Core.Path.{_≡_};
+ghost use mathlib.Core.Bool.{true};
+ghost use Prim.Native.Nat.{_+_, _*_, _≤_};
+ghost use lib.ListN.{length};
+ghost use Rattle.lent.specs.Lent.{refused};
+ghost use Rattle.card.specs.Record.{shapeFits};
+ghost use Rattle.play.specs.Refusal.{roomFits};
+ghost use Rattle.play.specs.Fits.{replyFits};
+ghost use Rattle.play.specs.Events.{frameEvent, markEvent, offEvent, replied, Leaves, Replies};
+
+use crate::answer::put_reply;
+use crate::effects::{change_locks, change_memory};
+use crate::refusal::refusal;
+use crate::Served;
+use card::{Card, Reply};
+
+// Minus a number of the table.
+fn minus(number: u8) -> i64
+    requires { ⌜ number ≤ 4 ⌝ }
+    ensures { λ r. ⌜ r ≡ refused number ⌝ }
+{
+    if number == 0 {
+        return 0;
+    }
+    if number == 1 {
+        return -1;
+    }
+    if number == 2 {
+        return -2;
+    }
+    if number == 3 { -3 } else { -4 }
+}
+
+// The reply with its check, or nothing for silence.
+fn reply_to(card: Card, memory: &[u8], locks: &[u8], reply: Reply, answer: &mut [u8]) -> Served
+    requires { ⌜ shapeFits (card .blocks) (card .size) ≡ true ⌝ }
+    requires { ⌜ replyFits card reply ≡ true ⌝ }
+    requires { ⌜ length (now memory) ≡ card .blocks * card .size ⌝ }
+    requires { ⌜ length (now locks) ≡ card .blocks ⌝ }
+    requires { ⌜ roomFits card (length (now answer)) ≡ true ⌝ }
+    ensures { λ r. ⌜ Replies (replied card (now (memory .entry)) (now (locks .entry)) reply (now (answer .entry))) r (now (answer .exit)) ⌝ }
+{
+    let n = put_reply(card, memory, locks, reply, answer);
+    if n == 0 {
+        return Served {
+            card: card,
+            answer: 0,
+        };
+    }
+    let told = frames::seal(answer, n);
+    Served {
+        card: card,
+        answer: told,
+    }
+}
+
+// A frame arrives.
+pub fn frame(card: Card, frame: &[u8], memory: &mut [u8], locks: &mut [u8], answer: &mut [u8]) -> Served
+    ensures { λ r. ⌜ Leaves (frameEvent card (now (frame .entry)) (now (memory .entry)) (now (locks .entry)) (now (answer .entry))) r (now (memory .exit)) (now (locks .exit)) (now (answer .exit)) ⌝ }
+{
+    let number = refusal(card, memory.len(), locks, answer.len());
+    if number != 0 {
+        return Served {
+            card: card,
+            answer: minus(number),
+        };
+    }
+    let deed = card.decide(locks, frame);
+    let next = deed.card;
+    let effect = deed.effect;
+    let reply = deed.reply;
+    change_memory(next, frame, effect, memory);
+    change_locks(effect, locks);
+    reply_to(next, memory, locks, reply, answer)
+}
+
+// A slot mark arrives.
+pub fn mark(card: Card, memory: &[u8], locks: &[u8], answer: &mut [u8]) -> Served
+    ensures { λ r. ⌜ Leaves (markEvent card (now (memory .entry)) (now (locks .entry)) (now (answer .entry))) r (now (memory .entry)) (now (locks .entry)) (now (answer .exit)) ⌝ }
+{
+    let number = refusal(card, memory.len(), locks, answer.len());
+    if number != 0 {
+        return Served {
+            card: card,
+            answer: minus(number),
+        };
+    }
+    let turn = card.hear_mark();
+    let next = turn.card;
+    let reply = turn.reply;
+    reply_to(next, memory, locks, reply, answer)
+}
+
+// Power goes off.
+pub fn power_off(card: Card, memory: &[u8], locks: &[u8], answer: &[u8]) -> Served
+    ensures { λ r. ⌜ Leaves (offEvent card (now (memory .entry)) (now (locks .entry)) (now (answer .entry))) r (now (memory .entry)) (now (locks .entry)) (now (answer .entry)) ⌝ }
+{
+    let number = refusal(card, memory.len(), locks, answer.len());
+    if number != 0 {
+        return Served {
+            card: card,
+            answer: minus(number),
+        };
+    }
+    Served {
+        card: card.power_off(),
+        answer: 0,
+    }
+}
