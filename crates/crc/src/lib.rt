@@ -4,12 +4,12 @@ ghost use Prim.Native.Nat.{_+_, _*_};
 ghost use Rattle.crc.specs.Check.{shifted, taken, checkOf, isCheck, isSealed};
 
 // The polynomial x^16 + x^12 + x^5 + 1, its lowest power in the top bit.
-const POLYNOMIAL: u16 = 0x8408;
+const POLYNOMIAL: u32 = 0x8408;
 
-const PRESET: u16 = 0xffff;
+const PRESET: u32 = 0xffff;
 
-// One bit leaves the register.
-fn shift(x: u16) -> u16
+// One bit leaves the register. It never has more than sixteen bits, and stands in a u32 since a u16 costs an extension for each bit.
+fn shift(x: u32) -> u32
     ensures { λ r. ⌜ r ≡ shifted x ⌝ }
 {
     if x % 2 == 1 {
@@ -19,17 +19,11 @@ fn shift(x: u16) -> u16
     }
 }
 
-fn wide(b: u8) -> u16
-    ensures { λ r. ⌜ r ≡ b ⌝ }
-{
-    b as u16
-}
-
 // A byte goes into the register, and eight bits leave it.
-fn take(x: u16, b: u8) -> u16
+fn take(x: u32, b: u8) -> u32
     ensures { λ r. ⌜ r ≡ taken x b ⌝ }
 {
-    let x1 = shift(x ^ wide(b));
+    let x1 = shift(x ^ (b as u32));
     let x2 = shift(x1);
     let x3 = shift(x2);
     let x4 = shift(x3);
@@ -49,7 +43,7 @@ pub fn check(bytes: &[u8]) -> u16
         x = take(x, bytes[i]);
         i += 1;
     }
-    !x
+    (0xffff - x) as u16
 }
 
 // Two bytes as one number, low byte first.

@@ -4,9 +4,6 @@ use Rattle.crc.specs.Check.{taken, shifts}
 use Rattle.crc.proofs.take.Statement.{statement}
 use Rattle.crc.proofs.take.Tie as tie
 
-wide-requires : tie.Need-wide-requires
-wide-requires c κs = search needs
-
 shift-requires : tie.Need-shift-requires
 shift-requires c κs = search needs
 
@@ -39,7 +36,6 @@ pub take-spec : {M : Type 1} → statement M
 take-spec =
     tie.close
     (tie.spec
-    wide-requires
     shift-requires
     shift-requires-2
     shift-requires-3
