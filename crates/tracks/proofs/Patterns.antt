@@ -1,27 +1,30 @@
 -- Patterns and pairs: the shifts and masks of the code give the tables of the definitions, and each pair comes back from its pattern.
 -- Each by one computed test. Assumes nothing.
-use mathlib.Core.Path.{_≡_, refl, sym, ap, _∙_}
-use mathlib.Core.Bool.{Bool, true, false, cond, _&&_}
-use Prim.Native.Nat.{ℕ, zero, suc, _+_, _*_, _/_, _%_, _^_, _<_}
-use native.Mathlib.Nat.{mod-lt}
+use mathlib.Core.Path.{_≡_, refl, sym, ap, ap₂, _∙_}
+use mathlib.Core.Bool.{Bool, true, false, cond}
+use Prim.Native.Nat.{ℕ, _*_, _/_, _%_, _<_}
 use native.Mathlib.Omega.{arith}
-use lib.Bits.{bitAnd, bitOr, and-mask, and-le-r}
-use lib.Dec.{eqb, ltb}
-use borrow.Author.Tests.{eqb-true, eqb-false, eq-eqb, ne-eqb}
+use lib.Bits.{bitAnd, bitOr}
+use lib.Dec.{eqb}
+use borrow.Author.Tests.{eqb-true, eq-eqb, ne-eqb}
 use Rattle.tracks.specs.Track.{pattern}
 use Rattle.tracks.specs.Decoder.{pairOf}
 use Rattle.tracks.proofs.Every.{every, every-at}
 
--- a shift that picks one of four
-shift-fits : (p : ℕ) → p < 4 → 0x40 / 2 ^ (p * 2 % 256) ≡ pattern p
-unfolding every pattern
-shift-fits p h =
-    eqb-true (0x40 / 2 ^ (p * 2 % 256)) (pattern p)
-    (every-at 4 (λ k. eqb (0x40 / 2 ^ (k * 2 % 256)) (pattern k)) refl p h)
+-- one of four, as the code picks it: by whether the pair's high bit is 0, then by whether its low bit is
+abbrev pub picked : Bool → Bool → ℕ
+picked high low = cond low (cond high 0x40 0x04) (cond high 0x40 0x04 / 4)
 
--- the pattern of the lowest pair of v, as the code makes it
-pub pattern-shift : (v : ℕ) → 0x40 / 2 ^ (bitAnd v 3 * 2 % 256) ≡ pattern (v % 4)
-pattern-shift v = rw (and-mask v 2) (shift-fits (v % 4) (omega arith))
+picked-right : (v : ℕ) → v < 256 → picked (eqb (bitAnd v 2) 0) (eqb (bitAnd v 1) 0) ≡ pattern (v % 4)
+unfolding every pattern
+picked-right v h =
+    eqb-true (picked (eqb (bitAnd v 2) 0) (eqb (bitAnd v 1) 0)) (pattern (v % 4))
+    (every-at 256 (λ k. eqb (picked (eqb (bitAnd k 2) 0) (eqb (bitAnd k 1) 0)) (pattern (k % 4))) refl v h)
+
+-- the pattern of the lowest pair of v
+pub picked-is : (v : ℕ) → v < 256 → (high low : Bool) → eqb (bitAnd v 2) 0 ≡ high → eqb (bitAnd v 1) 0 ≡ low
+    → picked high low ≡ pattern (v % 4)
+picked-is v h high low p q = ap₂ picked (sym p) (sym q) ∙ picked-right v h
 
 -- the pair that may stand at b, as the code makes it
 abbrev pub near : ℕ → ℕ

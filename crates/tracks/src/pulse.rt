@@ -21,11 +21,13 @@ pub(crate) fn unit_of(coding: u8) -> usize
     if coding == 0 { 4 } else { 64 }
 }
 
-// The pattern of the lowest pair of v.
+// The pattern of the lowest pair of v, picked by the pair's high bit and shifted on by its low bit. No shift by a number that varies:
+// it would keep the compiler from coding several bytes at once.
 pub(crate) fn pattern_of(v: u8) -> u8
     ensures { λ r. ⌜ r ≡ pattern (v % 4) ⌝ }
 {
-    0x40 >> ((v & 3) << 1)
+    let x: u8 = if v & 2 == 0 { 0x40 } else { 0x04 };
+    if v & 1 == 0 { x } else { x >> 2 }
 }
 
 // The pair whose pattern is b, or 4 for none: a pause at bit 0 or 2 makes its high bit 1, one at bit 0 or 4 its low bit.
