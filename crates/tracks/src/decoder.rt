@@ -35,15 +35,16 @@ fn join(a: u8, b: u8, c: u8, d: u8) -> u16
     (a as u16) + 4 * (b as u16) + 16 * (c as u16) + 64 * (d as u16)
 }
 
-// 1 of 4: the byte of four track bytes.
+// 1 of 4: the byte of four track bytes. The last is read first: else the compiler shares the read of the first with 1 of 256 and has
+// to put the four together again.
 fn quad_at(track: &[u8], at: usize) -> u16
     requires { ⌜ at + 4 ≤ length (now track) ⌝ }
     ensures { λ r. ⌜ r ≡ byteOf 0 (take 4 (drop at (now (track .entry)))) ⌝ }
 {
-    let a = pair_of(track[at]);
-    let b = pair_of(track[at + 1]);
-    let c = pair_of(track[at + 2]);
     let d = pair_of(track[at + 3]);
+    let c = pair_of(track[at + 2]);
+    let b = pair_of(track[at + 1]);
+    let a = pair_of(track[at]);
     join(a, b, c, d)
 }
 

@@ -4,14 +4,17 @@ use Rattle.tracks.proofs.Reading.{quad-byte}
 use Rattle.tracks.proofs.decoder.quad_at.Statement.{statement}
 use Rattle.tracks.proofs.decoder.quad_at.Tie as tie
 
+add-pair-of : tie.Need-add-pair-of
+add-pair-of c = search needs
+
 shared-slice-read-pair-of : tie.Need-shared-slice-read-pair-of
 shared-slice-read-pair-of c = search needs
 
 pair-of-requires : tie.Need-pair-of-requires
 pair-of-requires c κs = search needs
 
-add-pair-of : tie.Need-add-pair-of
-add-pair-of c = search needs
+add-pair-of-2 : tie.Need-add-pair-of-2
+add-pair-of-2 c = search needs
 
 shared-slice-read-pair-of-2 : tie.Need-shared-slice-read-pair-of-2
 shared-slice-read-pair-of-2 c = search needs
@@ -19,17 +22,14 @@ shared-slice-read-pair-of-2 c = search needs
 pair-of-requires-2 : tie.Need-pair-of-requires-2
 pair-of-requires-2 c κs = search needs
 
-add-pair-of-2 : tie.Need-add-pair-of-2
-add-pair-of-2 c = search needs
+add-pair-of-3 : tie.Need-add-pair-of-3
+add-pair-of-3 c = search needs
 
 shared-slice-read-pair-of-3 : tie.Need-shared-slice-read-pair-of-3
 shared-slice-read-pair-of-3 c = search needs
 
 pair-of-requires-3 : tie.Need-pair-of-requires-3
 pair-of-requires-3 c κs = search needs
-
-add-pair-of-3 : tie.Need-add-pair-of-3
-add-pair-of-3 c = search needs
 
 shared-slice-read-pair-of-4 : tie.Need-shared-slice-read-pair-of-4
 shared-slice-read-pair-of-4 c = search needs
@@ -53,15 +53,15 @@ pub quad-at-spec : {M : Type 1} → statement M
 quad-at-spec =
     tie.close
     (tie.spec
+    add-pair-of
     shared-slice-read-pair-of
     pair-of-requires
-    add-pair-of
+    add-pair-of-2
     shared-slice-read-pair-of-2
     pair-of-requires-2
-    add-pair-of-2
+    add-pair-of-3
     shared-slice-read-pair-of-3
     pair-of-requires-3
-    add-pair-of-3
     shared-slice-read-pair-of-4
     pair-of-requires-4
     join-requires
