@@ -1,8 +1,8 @@
 // From a track to its frame. The whole track is looked at before the first byte is written.
 ghost use mathlib.Core.Path.{_≡_};
 ghost use mathlib.Core.Bool.{true};
-ghost use Prim.Native.Nat.{_+_, _*_, _≤_};
-ghost use lib.ListN.{length, take, drop};
+ghost use Prim.Native.Nat.{ℕ, _+_, _-_, _*_, _≤_, _<_};
+ghost use lib.ListN.{length, getD, take, drop};
 ghost use Rattle.lent.specs.Lent.{over};
 ghost use Rattle.tracks.specs.Track.{unit};
 ghost use Rattle.tracks.specs.Decoder.{joined, zeros, lone, byteOf, areBytes, bytesOf, lengthAs, isSlotMark, Decodes};
@@ -48,12 +48,44 @@ fn quad_at(track: &[u8], at: usize) -> u16
     join(a, b, c, d)
 }
 
+// Whether the eight bytes at a place are all 00. Put over each other, they are asked in one test.
+fn eight_blank(track: &[u8], at: usize) -> bool
+    requires { ⌜ at + 8 ≤ length (now track) ⌝ }
+    ensures { λ r. ⌜ (r ≡ true → (k : ℕ) → k < 8 → getD (now (track .entry)) (at + k) 0 ≡ 0) ⌝ }
+{
+    let all = track[at]
+        | track[at + 1]
+        | track[at + 2]
+        | track[at + 3]
+        | track[at + 4]
+        | track[at + 5]
+        | track[at + 6]
+        | track[at + 7];
+    all == 0
+}
+
+// Of the bytes 00 that the n bytes at a place begin with, how many are passed eight at a time.
+fn blanks_at(track: &[u8], at: usize, n: usize) -> usize
+    requires { ⌜ at + n ≤ length (now track) ⌝ }
+    ensures within { λ r. ⌜ r ≤ n ⌝ }
+    ensures passed { λ r. ⌜ r + zeros (take (n - r) (drop (at + r) (now (track .entry)))) ≡ zeros (take n (drop at (now (track .entry)))) ⌝ }
+{
+    let mut i = 0;
+    while 8 <= n - i {
+        if !eight_blank(track, at + i) {
+            return i;
+        }
+        i += 8;
+    }
+    i
+}
+
 // How many of the n bytes at a place are 00 before the first that is not.
 fn zeros_at(track: &[u8], at: usize, n: usize) -> usize
     requires { ⌜ at + n ≤ length (now track) ⌝ }
     ensures { λ r. ⌜ r ≡ zeros (take n (drop at (now (track .entry)))) ⌝ }
 {
-    let mut i = 0;
+    let mut i = blanks_at(track, at, n);
     while i < n {
         if track[at + i] != 0 {
             return i;
