@@ -6,3 +6,5 @@ pub mod Answers
 pub mod Blocks
 pub mod Room
 pub mod Decided
+pub mod Turns
+pub mod EventWays

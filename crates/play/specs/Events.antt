@@ -49,13 +49,13 @@ replied c memory locks reply found =
 
 -- "All change nothing."
 unfoldable pub unserved : Card → List ℕ → List ℕ → List ℕ → ℕ → Outcome
-unserved c memory locks found no = record { card = c; memory = memory; locks = locks; answer = found; number = refused no }
+unserved c memory locks found n = record { card = c; memory = memory; locks = locks; answer = found; number = refused n }
 
 -- "card, for each of the three events, 1, 2, 3, 4": refused, or served
 unfoldable pub event : Card → List ℕ → List ℕ → List ℕ → Outcome → Outcome
 event c memory locks found served =
-    let no : ℕ = refusal c (length memory) locks (length found) in
-    cond (eqb no 0) served (unserved c memory locks found no)
+    let n : ℕ = refusal c (length memory) locks (length found) in
+    cond (eqb n 0) served (unserved c memory locks found n)
 
 unfoldable pub carriedOut : Deed → List ℕ → List ℕ → List ℕ → List ℕ → Outcome
 carriedOut d frame memory locks found =
