@@ -7,7 +7,7 @@ use native.Mathlib.Numerals.{towards-suc}
 use native.Mathlib.Omega.{arith}
 use mathlib.Core.List.{List, [], _∷_, _++_, append-assoc, append-nil}
 use lib.ListN.{length, take, drop, set, length-append, length-take, length-drop, length-set, take-append-drop}
-use lib.Seq.{sets, sets-eq, take-at, drop-append-add, drop-drop, drop-cons, set-at, set-append-left, append-snoc, length-take-le}
+use lib.Seq.{sets, sets-eq, take-at, take-append-seam, drop-append-add, drop-drop, drop-cons, set-at, set-append-left, append-snoc, length-take-le}
 use Rattle.lent.specs.Lent.{over, placed}
 
 pub over-none : (e : List ℕ) → over [] e ≡ e
@@ -84,3 +84,12 @@ set-placed at s e b h =
     ap (λ (r : List ℕ). set (take at e ++ s ++ r) (at + length s) b) (drop-cons e (at + length s) 0 h)
     ∙ set-at (take at e ++ s) _ (drop (suc (at + length s)) e) b (at + length s) place
     ∙ rw (past, ← append-assoc, append-snoc)
+
+-- more bytes over bytes that stand there already
+pub over-over : (s v e : List ℕ) → over (s ++ v) (over s e) ≡ over (s ++ v) e
+unfolding over
+over-over s v e = rw (length-append, drop-append-add, drop-drop)
+
+pub take-over : (s e : List ℕ) → take (length s) (over s e) ≡ s
+unfolding over
+take-over s e = take-append-seam s (drop (length s) e)

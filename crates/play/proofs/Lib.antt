@@ -8,3 +8,4 @@ pub mod Room
 pub mod Decided
 pub mod Turns
 pub mod EventWays
+pub mod ReadyFor

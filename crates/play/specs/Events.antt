@@ -4,9 +4,8 @@ use mathlib.Core.Bool.{cond}
 use mathlib.Core.List.{List}
 use mathlib.Core.Path.{_≡_}
 use lib.Dec.{eqb}
-use lib.IntN.{ℤ, pos}
 use lib.ListN.{length}
-use Rattle.lent.specs.Lent.{over, refused}
+use Rattle.lent.specs.Lent.{over}
 use Rattle.crc.specs.Check.{sealed}
 use Rattle.card.specs.declared.Card.{Card}
 use Rattle.card.specs.declared.Deed.{Deed}
@@ -20,21 +19,22 @@ use Rattle.play.specs.Refusal.{refusal}
 use Rattle.play.specs.Answer.{replyBytes}
 use Rattle.play.specs.Effects.{memoryAfter, locksAfter}
 
--- the number that a call gives back: the answer's length with its check, 0 for silence
-unfoldable pub lengthTold : List ℕ → ℤ
-lengthTold body = cond (eqb (length body) 0) (pos 0) (pos (length body + 2))
+-- the answer's length with its check, 0 for silence
+unfoldable pub lengthTold : List ℕ → ℕ
+lengthTold body = cond (eqb (length body) 0) 0 (length body + 2)
 
 -- "Silence leaves the answer buffer as found.": else the answer with its check, and the bytes past it as found
 unfoldable pub answered : List ℕ → List ℕ → List ℕ
 answered body found = cond (eqb (length body) 0) found (over (sealed body) found)
 
--- all that a call leaves behind
+-- all that a call leaves behind: number is the refusal, 0 where it is served, and told the answer's length
 pub record Outcome : Type 0 where
   pub card : Card
   pub memory : List ℕ
   pub locks : List ℕ
   pub answer : List ℕ
-  pub number : ℤ
+  pub number : ℕ
+  pub told : ℕ
 
 -- a card with what it replies, over memory and locks as they now are
 unfoldable pub replied : Card → List ℕ → List ℕ → Reply → List ℕ → Outcome
@@ -44,12 +44,13 @@ replied c memory locks reply found =
       memory = memory;
       locks = locks;
       answer = answered (replyBytes c memory locks reply) found;
-      number = lengthTold (replyBytes c memory locks reply);
+      number = 0;
+      told = lengthTold (replyBytes c memory locks reply);
     }
 
 -- "All change nothing."
 unfoldable pub unserved : Card → List ℕ → List ℕ → List ℕ → ℕ → Outcome
-unserved c memory locks found n = record { card = c; memory = memory; locks = locks; answer = found; number = refused n }
+unserved c memory locks found n = record { card = c; memory = memory; locks = locks; answer = found; number = n; told = 0 }
 
 -- "card, for each of the three events, 1, 2, 3, 4": refused, or served
 unfoldable pub event : Card → List ℕ → List ℕ → List ℕ → Outcome → Outcome
@@ -73,7 +74,8 @@ offEvent c memory locks found = event c memory locks found (replied (poweredOff 
 -- what the three calls promise: what is returned, and every lent byte
 pub record Leaves (o : Outcome) (r : Served) (memory locks answer : List ℕ) : Type 0 where
   pub card : r .card ≡ o .card
-  pub number : r .answer ≡ o .number
+  pub number : r .number ≡ o .number
+  pub told : r .length ≡ o .told
   pub memory-left : memory ≡ o .memory
   pub locks-left : locks ≡ o .locks
   pub answer-left : answer ≡ o .answer
@@ -81,5 +83,6 @@ pub record Leaves (o : Outcome) (r : Served) (memory locks answer : List ℕ) : 
 -- the same for a reply alone, which leaves memory and locks
 pub record Replies (o : Outcome) (r : Served) (answer : List ℕ) : Type 0 where
   pub card : r .card ≡ o .card
-  pub number : r .answer ≡ o .number
+  pub number : r .number ≡ o .number
+  pub told : r .length ≡ o .told
   pub answer-left : answer ≡ o .answer

@@ -1,9 +1,8 @@
 // A frame, a slot mark, power off.
 ghost use mathlib.Core.Path.{_≡_};
 ghost use mathlib.Core.Bool.{true};
-ghost use Prim.Native.Nat.{_+_, _*_, _≤_};
+ghost use Prim.Native.Nat.{_*_};
 ghost use lib.ListN.{length};
-ghost use Rattle.lent.specs.Lent.{refused};
 ghost use Rattle.card.specs.Record.{shapeFits};
 ghost use Rattle.play.specs.Refusal.{roomFits};
 ghost use Rattle.play.specs.Fits.{replyFits};
@@ -14,23 +13,6 @@ use crate::effects::{change_locks, change_memory};
 use crate::refusal::refusal;
 use crate::Served;
 use card::{Card, Reply};
-
-// Minus a number of the table.
-fn minus(number: u8) -> i64
-    requires { ⌜ number ≤ 4 ⌝ }
-    ensures { λ r. ⌜ r ≡ refused number ⌝ }
-{
-    if number == 0 {
-        return 0;
-    }
-    if number == 1 {
-        return -1;
-    }
-    if number == 2 {
-        return -2;
-    }
-    if number == 3 { -3 } else { -4 }
-}
 
 // The reply with its check, or nothing for silence.
 fn reply_to(card: Card, memory: &[u8], locks: &[u8], reply: Reply, answer: &mut [u8]) -> Served
@@ -45,13 +27,15 @@ fn reply_to(card: Card, memory: &[u8], locks: &[u8], reply: Reply, answer: &mut 
     if n == 0 {
         return Served {
             card: card,
-            answer: 0,
+            number: 0,
+            length: 0,
         };
     }
-    let told = frames::seal(answer, n);
+    frames::seal(answer, n);
     Served {
         card: card,
-        answer: told,
+        number: 0,
+        length: n + 2,
     }
 }
 
@@ -63,7 +47,8 @@ pub fn frame(card: Card, frame: &[u8], memory: &mut [u8], locks: &mut [u8], answ
     if number != 0 {
         return Served {
             card: card,
-            answer: minus(number),
+            number: number,
+            length: 0,
         };
     }
     let deed = card.decide(locks, frame);
@@ -83,7 +68,8 @@ pub fn mark(card: Card, memory: &[u8], locks: &[u8], answer: &mut [u8]) -> Serve
     if number != 0 {
         return Served {
             card: card,
-            answer: minus(number),
+            number: number,
+            length: 0,
         };
     }
     let turn = card.hear_mark();
@@ -100,11 +86,13 @@ pub fn power_off(card: Card, memory: &[u8], locks: &[u8], answer: &[u8]) -> Serv
     if number != 0 {
         return Served {
             card: card,
-            answer: minus(number),
+            number: number,
+            length: 0,
         };
     }
     Served {
         card: card.power_off(),
-        answer: 0,
+        number: 0,
+        length: 0,
     }
 }

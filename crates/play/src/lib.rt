@@ -7,8 +7,9 @@ mod refusal;
 
 use card::Card;
 
-// What an event returns: the next record, and the answer's length, 0 for silence, or minus the number of the refusal.
+// What an event returns: the next record, the number of the refusal or 0, and the answer's length, 0 for silence.
 pub struct Served {
     pub card: Card,
-    pub answer: i64,
+    pub number: u8,
+    pub length: usize,
 }
