@@ -1,2 +1,5 @@
 pub mod Bits
 pub mod Places
+pub mod Rules
+pub mod Unique
+pub mod Examples

@@ -2,10 +2,15 @@
 ghost use mathlib.Core.Path.{_≡_};
 ghost use mathlib.Core.Bool.{_||_};
 ghost use Rattle.card.specs.Frame.{decided, heardInventory};
-
-use crate::inventory::{byte_at, inventory};
-use crate::request::{request, silence};
-use crate::{Card, Deed, Effect, Reply, Turn};
+use crate::Card;
+use crate::Deed;
+use crate::Effect;
+use crate::Reply;
+use crate::Turn;
+use crate::inventory::byte_at;
+use crate::inventory::inventory;
+use crate::request::request;
+use crate::request::silence;
 use frames::Flags;
 
 fn either(a: bool, b: bool) -> bool

@@ -4,20 +4,18 @@ ghost use Prim.Native.Nat.{_+_, _%_, _/_, _^_};
 ghost use lib.ListN.{getD};
 ghost use lib.Dec.{eqb};
 ghost use Rattle.card.specs.Inventory.{lengthPlace, maskBytes, maskLimit, maskOf, totalLength, fitsFamily, takesPart, fitsMask, fitsSlot, present, joins, isInventory, inventoried};
-
+use crate::Card;
+use crate::Reply;
+use crate::Sequence;
+use crate::Turn;
 use crate::record::is_quiet;
-use crate::{Card, Reply, Sequence, Turn};
 use frames::Flags;
 
 // The byte at a place of a frame, or 0 past its end.
 pub(crate) fn byte_at(frame: &[u8], at: usize) -> u8
     ensures { λ r. ⌜ r ≡ getD (now (frame .entry)) at 0 ⌝ }
 {
-    if at < frame.len() {
-        frame[at]
-    } else {
-        0
-    }
+    if at < frame.len() { frame[at] } else { 0 }
 }
 
 // The low n bits of a number.

@@ -1,9 +1,13 @@
 // A slot mark: it releases a held answer, or moves a running sequence.
 ghost use mathlib.Core.Path.{_≡_};
 ghost use Rattle.card.specs.Mark.{moved, released, marked};
-
-use crate::inventory::{fits_slot, present_if};
-use crate::{Card, Held, Reply, Sequence, Turn};
+use crate::Card;
+use crate::Held;
+use crate::Reply;
+use crate::Sequence;
+use crate::Turn;
+use crate::inventory::fits_slot;
+use crate::inventory::present_if;
 
 fn running_on(card: Card, slot: u8, n: u8, mask: u64) -> Turn
     ensures { λ r. ⌜ r ≡ moved card (Sequence.Running slot n mask) ⌝ }

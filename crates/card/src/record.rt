@@ -3,8 +3,10 @@ ghost use mathlib.Core.Path.{_≡_};
 ghost use Prim.Native.Nat.{_^_};
 ghost use lib.Dec.{ltb};
 ghost use Rattle.card.specs.Record.{shapeFits, sequenceFits, heldFits, isAccepted, remade, cleared, inMode, inSequence, holding, withAfi, withDsfid, poweredOff, isQuiet, isSelected};
-
-use crate::{Card, Held, Mode, Sequence};
+use crate::Card;
+use crate::Held;
+use crate::Mode;
+use crate::Sequence;
 
 fn shape_fits(blocks: u32, size: u32) -> bool
     ensures { λ r. ⌜ r ≡ shapeFits blocks size ⌝ }
@@ -94,7 +96,16 @@ impl Card {
     }
 
     // Shape, UID and IC reference stay.
-    fn remade(self, afi: u8, dsfid: u8, afi_locked: bool, dsfid_locked: bool, mode: Mode, sequence: Sequence, held: Held) -> Card
+    fn remade(
+        self,
+        afi: u8,
+        dsfid: u8,
+        afi_locked: bool,
+        dsfid_locked: bool,
+        mode: Mode,
+        sequence: Sequence,
+        held: Held,
+    ) -> Card
         ensures { λ r. ⌜ r ≡ remade self afi dsfid «afi_locked» «dsfid_locked» mode sequence held ⌝ }
     {
         Card {
@@ -116,7 +127,15 @@ impl Card {
         ensures { λ r. ⌜ r ≡ cleared self ⌝ }
     {
         let mode = self.mode;
-        self.remade(self.afi, self.dsfid, self.afi_locked, self.dsfid_locked, mode, Sequence::Idle, Held::Free)
+        self.remade(
+            self.afi,
+            self.dsfid,
+            self.afi_locked,
+            self.dsfid_locked,
+            mode,
+            Sequence::Idle,
+            Held::Free,
+        )
     }
 
     pub(crate) fn in_mode(self, mode: Mode) -> Card
@@ -124,7 +143,15 @@ impl Card {
     {
         let sequence = self.sequence;
         let held = self.held;
-        self.remade(self.afi, self.dsfid, self.afi_locked, self.dsfid_locked, mode, sequence, held)
+        self.remade(
+            self.afi,
+            self.dsfid,
+            self.afi_locked,
+            self.dsfid_locked,
+            mode,
+            sequence,
+            held,
+        )
     }
 
     pub(crate) fn in_sequence(self, sequence: Sequence) -> Card
@@ -132,7 +159,15 @@ impl Card {
     {
         let mode = self.mode;
         let held = self.held;
-        self.remade(self.afi, self.dsfid, self.afi_locked, self.dsfid_locked, mode, sequence, held)
+        self.remade(
+            self.afi,
+            self.dsfid,
+            self.afi_locked,
+            self.dsfid_locked,
+            mode,
+            sequence,
+            held,
+        )
     }
 
     pub(crate) fn holding(self, held: Held) -> Card
@@ -140,7 +175,15 @@ impl Card {
     {
         let mode = self.mode;
         let sequence = self.sequence;
-        self.remade(self.afi, self.dsfid, self.afi_locked, self.dsfid_locked, mode, sequence, held)
+        self.remade(
+            self.afi,
+            self.dsfid,
+            self.afi_locked,
+            self.dsfid_locked,
+            mode,
+            sequence,
+            held,
+        )
     }
 
     pub(crate) fn with_afi(self, afi: u8, locked: bool) -> Card
@@ -149,7 +192,15 @@ impl Card {
         let mode = self.mode;
         let sequence = self.sequence;
         let held = self.held;
-        self.remade(afi, self.dsfid, locked, self.dsfid_locked, mode, sequence, held)
+        self.remade(
+            afi,
+            self.dsfid,
+            locked,
+            self.dsfid_locked,
+            mode,
+            sequence,
+            held,
+        )
     }
 
     pub(crate) fn with_dsfid(self, dsfid: u8, locked: bool) -> Card
@@ -158,7 +209,15 @@ impl Card {
         let mode = self.mode;
         let sequence = self.sequence;
         let held = self.held;
-        self.remade(self.afi, dsfid, self.afi_locked, locked, mode, sequence, held)
+        self.remade(
+            self.afi,
+            dsfid,
+            self.afi_locked,
+            locked,
+            mode,
+            sequence,
+            held,
+        )
     }
 
     // Power off: what is lost with it.

@@ -4,10 +4,15 @@ ghost use mathlib.Core.Bool.{cond, not, _&&_};
 ghost use Rattle.card.specs.Record.{isQuiet, isSelected};
 ghost use Prim.Native.Nat.{_+_, _≤_};
 ghost use Rattle.card.specs.Request.{deed, silent, fault, done, failed, isLocked, reads, writes, locks-block, writes-afi, writes-dsfid, locks-afi, locks-dsfid, tells-locks, commanded, isListed, bodyAsked, refusesOption, holdsAnswer, bodyLength, judged, quieted, sorted, passedBy, addressed, unaddressed, requested};
-
+use crate::Card;
+use crate::Deed;
+use crate::Effect;
+use crate::Held;
+use crate::Mode;
+use crate::Reply;
 use crate::inventory::byte_at;
-use crate::record::{is_quiet, is_selected};
-use crate::{Card, Deed, Effect, Held, Mode, Reply};
+use crate::record::is_quiet;
+use crate::record::is_selected;
 use frames::Flags;
 
 pub(crate) fn silence(card: Card) -> Deed
@@ -231,11 +236,7 @@ fn body_length(frame: &[u8], at: usize) -> usize
     ensures { λ r. ⌜ r ≡ bodyLength (now (frame .entry)) at ⌝ }
 {
     let n = frame.len();
-    if at + 2 <= n {
-        n - (at + 2)
-    } else {
-        0
-    }
+    if at + 2 <= n { n - (at + 2) } else { 0 }
 }
 
 pub(crate) fn both(a: bool, b: bool) -> bool

@@ -9,3 +9,5 @@ pub mod Decided
 pub mod Turns
 pub mod EventWays
 pub mod ReadyFor
+pub mod Unique
+pub mod Examples

@@ -7,12 +7,13 @@ ghost use Rattle.card.specs.Record.{shapeFits};
 ghost use Rattle.play.specs.Refusal.{roomFits};
 ghost use Rattle.play.specs.Fits.{replyFits};
 ghost use Rattle.play.specs.Events.{frameEvent, markEvent, offEvent, replied, Leaves, Replies};
-
-use crate::answer::put_reply;
-use crate::effects::{change_locks, change_memory};
-use crate::refusal::refusal;
 use crate::Served;
-use card::{Card, Reply};
+use crate::answer::put_reply;
+use crate::effects::change_locks;
+use crate::effects::change_memory;
+use crate::refusal::refusal;
+use card::Card;
+use card::Reply;
 
 // The reply with its check, or nothing for silence.
 fn reply_to(card: Card, memory: &[u8], locks: &[u8], reply: Reply, answer: &mut [u8]) -> Served
@@ -40,7 +41,13 @@ fn reply_to(card: Card, memory: &[u8], locks: &[u8], reply: Reply, answer: &mut 
 }
 
 // A frame arrives.
-pub fn frame(card: Card, frame: &[u8], memory: &mut [u8], locks: &mut [u8], answer: &mut [u8]) -> Served
+pub fn frame(
+    card: Card,
+    frame: &[u8],
+    memory: &mut [u8],
+    locks: &mut [u8],
+    answer: &mut [u8],
+) -> Served
     ensures { λ r. ⌜ Leaves (frameEvent card (now (frame .entry)) (now (memory .entry)) (now (locks .entry)) (now (answer .entry))) r (now (memory .exit)) (now (locks .exit)) (now (answer .exit)) ⌝ }
 {
     let number = refusal(card, memory.len(), locks, answer.len());

@@ -1,8 +1,7 @@
 // The three events of a card over its memory, its lock bytes and the room for its answer.
-pub mod events;
-
 mod answer;
 mod effects;
+pub mod events;
 mod refusal;
 
 use card::Card;

@@ -1,20 +1,16 @@
+-- `card::inventory::byte_at` meets its contract: past the end the byte is 0. Assumes nothing.
 use borrow.Author.Needs.{needs}
 use mathlib.Core.Path.{sym}
 use lib.ListN.{List·getD-eq-default}
 use Rattle.card.proofs.inventory.byte_at.Statement.{statement}
 use Rattle.card.proofs.inventory.byte_at.Tie as tie
-use Rattle.card.proofs.inventory.byte_at.Reads as reads
-use Rattle.card.proofs.inventory.byte_at.Lts as lts
 
--- src/inventory.rt:17:9
 shared-slice-read-result : tie.Need-shared-slice-read-result
 shared-slice-read-result c = search needs
 
--- src/inventory.rt:13:1
 returns : tie.Need-returns
 returns c = search needs
 
--- src/inventory.rt:13:1
 returns-2 : tie.Need-returns-2
 returns-2 c = sym (List·getD-eq-default (c .before .args .frame .now) 0 (c .if1 .left))
 

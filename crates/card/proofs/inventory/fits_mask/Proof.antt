@@ -1,16 +1,12 @@
+-- `card::inventory::fits_mask` meets its contract: the low bits against the mask. Assumes nothing.
 use borrow.Author.Needs.{needs}
 use Rattle.card.specs.Inventory.{fitsMask}
 use Rattle.card.proofs.inventory.fits_mask.Statement.{statement}
 use Rattle.card.proofs.inventory.fits_mask.Tie as tie
-use Rattle.card.proofs.inventory.fits_mask.Reads as reads
-use Rattle.card.proofs.inventory.fits_mask.Lts as lts
-use Rattle.card.proofs.inventory.low_bits.Reads as low-bits-reads
 
--- src/inventory.rt:94:5
 low-bits-requires : tie.Need-low-bits-requires
 low-bits-requires c κs = search needs
 
--- src/inventory.rt:91:1
 returns : tie.Need-returns
 unfolding fitsMask
 returns c = rw (c .low-bits .ensures)

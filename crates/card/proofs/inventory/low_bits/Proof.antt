@@ -1,3 +1,4 @@
+-- `card::inventory::low_bits` meets its contract: a shift makes the power of two, and from 64 on nothing is cut. Assumes nothing.
 use borrow.Author.Needs.{needs}
 use mathlib.Core.Path.{sym}
 use native.Mathlib.Omega.{arith}
@@ -6,22 +7,16 @@ use lib.Pow.{pow-pos}
 use Rattle.card.proofs.Bits.{below-power, bit-at}
 use Rattle.card.proofs.inventory.low_bits.Statement.{statement}
 use Rattle.card.proofs.inventory.low_bits.Tie as tie
-use Rattle.card.proofs.inventory.low_bits.Reads as reads
-use Rattle.card.proofs.inventory.low_bits.Lts as lts
 
--- src/inventory.rt:28:9
 returns : tie.Need-returns
 returns c = sym (mod-eq-of-lt (below-power _ _ (omega arith) (c .if1 .taken)))
 
--- src/inventory.rt:30:10
 shl-result : tie.Need-shl-result
 shl-result c = search needs
 
--- src/inventory.rt:30:5
 rem-result : tie.Need-rem-result
 rem-result c = rw (bit-at _ (c .if1 .left)) (pow-pos _)
 
--- src/inventory.rt:24:1
 returns-2 : tie.Need-returns-2
 returns-2 c = rw (bit-at _ (c .if1 .left))
 

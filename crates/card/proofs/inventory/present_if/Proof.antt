@@ -1,15 +1,12 @@
+-- `card::inventory::present_if` meets its contract: by the test. Assumes nothing.
 use Rattle.card.specs.Inventory.{present}
 use Rattle.card.proofs.inventory.present_if.Statement.{statement}
 use Rattle.card.proofs.inventory.present_if.Tie as tie
-use Rattle.card.proofs.inventory.present_if.Reads as reads
-use Rattle.card.proofs.inventory.present_if.Lts as lts
 
--- src/inventory.rt:107:1
 returns : tie.Need-returns
 unfolding present
 returns c = rw (c .if1 .taken)
 
--- src/inventory.rt:107:1
 returns-2 : tie.Need-returns-2
 unfolding present
 returns-2 c = rw (c .if1 .left)

@@ -1,29 +1,22 @@
+-- `card::mark::moving` meets its contract: by cases. Assumes nothing.
 use borrow.Author.Needs.{needs}
 use Rattle.card.specs.Mark.{moved}
 use Rattle.card.proofs.mark.moving.Statement.{statement}
 use Rattle.card.proofs.mark.moving.Tie as tie
-use Rattle.card.proofs.mark.moving.Reads as reads
-use Rattle.card.proofs.mark.moving.Lts as lts
-use Rattle.card.proofs.mark.running_on.Reads as running-on-reads
 
--- src/mark.rt:31:20
 enum-told : tie.Need-enum-told
 enum-told c = search needs
 
--- src/mark.rt:33:27
 enum-known-sequence : tie.Need-enum-known-sequence
 enum-known-sequence c = search needs
 
--- src/mark.rt:33:45
 running-on-requires : tie.Need-running-on-requires
 running-on-requires c κs = search needs
 
--- src/mark.rt:25:1
 returns : tie.Need-returns
 unfolding moved
 returns c = rw (c .enum-told .given .1)
 
--- src/mark.rt:25:1
 returns-2 : tie.Need-returns-2
 unfolding moved
 returns-2 c = rw (c .before .before .sequence .given .1) (c .running-on .ensures)

@@ -1,47 +1,35 @@
+-- `card::mark::release` meets its contract: by cases. Assumes nothing.
 use borrow.Author.Needs.{needs}
 use Rattle.card.specs.Mark.{released}
 use Rattle.card.proofs.mark.release.Statement.{statement}
 use Rattle.card.proofs.mark.release.Tie as tie
-use Rattle.card.proofs.mark.release.Reads as reads
-use Rattle.card.proofs.mark.release.Lts as lts
-use Rattle.card.proofs.Card.holding.Reads as holding-reads
-use Rattle.card.proofs.mark.moving.Reads as moving-reads
 
--- src/mark.rt:42:17
 enum-told : tie.Need-enum-told
 enum-told c = search needs
 
--- src/mark.rt:43:13
 moving-requires : tie.Need-moving-requires
 moving-requires c κs = search needs
 
--- src/mark.rt:46:32
 enum-told-2 : tie.Need-enum-told-2
 enum-told-2 c = search needs
 
--- src/mark.rt:46:19
 holding-requires : tie.Need-holding-requires
 holding-requires c κs = search needs
 
--- src/mark.rt:49:20
 enum-known-held : tie.Need-enum-known-held
 enum-known-held c = search needs
 
--- src/mark.rt:50:19
 holding-requires-2 : tie.Need-holding-requires-2
 holding-requires-2 c κs = search needs
 
--- src/mark.rt:37:1
 returns : tie.Need-returns
 unfolding released
 returns c = rw (c .before .enum-told .given .1) (c .moving .ensures)
 
--- src/mark.rt:37:1
 returns-2 : tie.Need-returns-2
 unfolding released
 returns-2 c = rw (c .before .enum-told2 .given .1, c .holding .ensures)
 
--- src/mark.rt:37:1
 returns-3 : tie.Need-returns-3
 unfolding released
 returns-3 c = rw (c .before .before .held .given .1, c .holding2 .ensures)

@@ -1,26 +1,21 @@
+-- `card::record::code_fits` meets its contract: the definition goes by the same four tests. Assumes nothing.
 use borrow.Author.Tests.{eq-eqb, ne-eqb}
 use Rattle.card.specs.Record.{heldFits}
 use Rattle.card.proofs.record.code_fits.Statement.{statement}
 use Rattle.card.proofs.record.code_fits.Tie as tie
-use Rattle.card.proofs.record.code_fits.Reads as reads
-use Rattle.card.proofs.record.code_fits.Lts as lts
 
--- src/record.rt:59:9
 returns : tie.Need-returns
 unfolding heldFits
 returns c = rw (eq-eqb _ _ (c .if1 .taken))
 
--- src/record.rt:62:9
 returns-2 : tie.Need-returns-2
 unfolding heldFits
 returns-2 c = rw (ne-eqb _ _ (c .before .if1 .left), eq-eqb _ _ (c .if2 .taken))
 
--- src/record.rt:65:9
 returns-3 : tie.Need-returns-3
 unfolding heldFits
 returns-3 c = rw (ne-eqb _ _ (c .before .before .if1 .left), ne-eqb _ _ (c .before .if2 .left), eq-eqb _ _ (c .if3 .taken))
 
--- src/record.rt:55:1
 returns-4 : tie.Need-returns-4
 unfolding heldFits
 returns-4 c = rw (ne-eqb _ _ (c .before .before .if1 .left), ne-eqb _ _ (c .before .if2 .left), ne-eqb _ _ (c .if3 .left))

@@ -1,33 +1,26 @@
+-- `card::record::is_selected` meets its contract: by cases. Assumes nothing.
 use borrow.Author.Needs.{needs}
 use Rattle.card.specs.Record.{isSelected}
 use Rattle.card.proofs.record.is_selected.Statement.{statement}
 use Rattle.card.proofs.record.is_selected.Tie as tie
-use Rattle.card.proofs.record.is_selected.Reads as reads
-use Rattle.card.proofs.record.is_selected.Lts as lts
 
--- src/record.rt:186:24
 enum-told : tie.Need-enum-told
 enum-told c = search needs
 
--- src/record.rt:187:24
 enum-told-2 : tie.Need-enum-told-2
 enum-told-2 c = search needs
 
--- src/record.rt:188:27
 enum-told-3 : tie.Need-enum-told-3
 enum-told-3 c = search needs
 
--- src/record.rt:182:1
 returns : tie.Need-returns
 unfolding isSelected
 returns c = rw (c .enum-told .given .1)
 
--- src/record.rt:182:1
 returns-2 : tie.Need-returns-2
 unfolding isSelected
 returns-2 c = rw (c .enum-told2 .given .1)
 
--- src/record.rt:182:1
 returns-3 : tie.Need-returns-3
 unfolding isSelected
 returns-3 c = rw (c .enum-told3 .given .1)

@@ -1,27 +1,21 @@
+-- `card::record::running_fits` meets its contract: the definition goes by the same three tests. Assumes nothing.
 use borrow.Author.Needs.{needs}
 use borrow.Author.Tests.{le-leb, lt-leb}
 use Rattle.card.specs.Record.{sequenceFits}
 use Rattle.card.proofs.record.running_fits.Statement.{statement}
 use Rattle.card.proofs.record.running_fits.Tie as tie
-use Rattle.card.proofs.record.running_fits.Reads as reads
-use Rattle.card.proofs.record.running_fits.Lts as lts
-use Rattle.card.proofs.record.is_below.Reads as is-below-reads
 
--- src/record.rt:38:9
 returns : tie.Need-returns
 unfolding sequenceFits
 returns c = rw (lt-leb _ _ (c .if1 .taken))
 
--- src/record.rt:41:9
 returns-2 : tie.Need-returns-2
 unfolding sequenceFits
 returns-2 c = rw (le-leb _ _ (c .before .if1 .left), lt-leb _ _ (c .if2 .taken))
 
--- src/record.rt:43:5
 is-below-requires : tie.Need-is-below-requires
 is-below-requires c κs = search needs
 
--- src/record.rt:34:1
 returns-3 : tie.Need-returns-3
 unfolding sequenceFits
 returns-3 c = rw (le-leb _ _ (c .before .before .if1 .left), le-leb _ _ (c .before .if2 .left)) (c .is-below .ensures)

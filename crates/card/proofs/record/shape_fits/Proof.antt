@@ -1,26 +1,21 @@
+-- `card::record::shape_fits` meets its contract: the definition goes by the same four tests. Assumes nothing.
 use borrow.Author.Tests.{le-leb, lt-leb}
 use Rattle.card.specs.Record.{shapeFits}
 use Rattle.card.proofs.record.shape_fits.Statement.{statement}
 use Rattle.card.proofs.record.shape_fits.Tie as tie
-use Rattle.card.proofs.record.shape_fits.Reads as reads
-use Rattle.card.proofs.record.shape_fits.Lts as lts
 
--- src/record.rt:13:9
 returns : tie.Need-returns
 unfolding shapeFits
 returns c = rw (lt-leb _ _ (c .if1 .taken))
 
--- src/record.rt:16:9
 returns-2 : tie.Need-returns-2
 unfolding shapeFits
 returns-2 c = rw (le-leb _ _ (c .before .if1 .left), lt-leb _ _ (c .if2 .taken))
 
--- src/record.rt:19:9
 returns-3 : tie.Need-returns-3
 unfolding shapeFits
 returns-3 c = rw (le-leb _ _ (c .before .before .if1 .left), le-leb _ _ (c .before .if2 .left), lt-leb _ _ (c .if3 .taken))
 
--- src/record.rt:9:1
 returns-4 : tie.Need-returns-4
 unfolding shapeFits
 returns-4 c = rw (le-leb _ _ (c .before .before .if1 .left), le-leb _ _ (c .before .if2 .left), le-leb _ _ (c .if3 .left))

@@ -1,54 +1,101 @@
+-- `card::request::body_asked` meets its contract: the definition goes by the same tests. Assumes nothing.
 use borrow.Author.Needs.{needs}
 use borrow.Author.Tests.{eq-eqb, ne-eqb}
 use Rattle.card.specs.Request.{bodyAsked}
 use Rattle.card.proofs.request.body_asked.Statement.{statement}
 use Rattle.card.proofs.request.body_asked.Tie as tie
-use Rattle.card.proofs.request.body_asked.Reads as reads
-use Rattle.card.proofs.request.body_asked.Lts as lts
 
--- src/request.rt:177:9
 returns : tie.Need-returns
 unfolding bodyAsked
 returns c = rw (eq-eqb _ _ (c .if1 .taken))
 
--- src/request.rt:180:9
 returns-2 : tie.Need-returns-2
 unfolding bodyAsked
 returns-2 c = rw (ne-eqb _ _ (c .before .if1 .left), eq-eqb _ _ (c .if2 .taken))
 
--- src/request.rt:183:9
 returns-3 : tie.Need-returns-3
 unfolding bodyAsked
 returns-3 c = rw (ne-eqb _ _ (c .before .before .if1 .left), ne-eqb _ _ (c .before .if2 .left), eq-eqb _ _ (c .if3 .taken))
 
--- src/request.rt:186:9
 returns-4 : tie.Need-returns-4
 unfolding bodyAsked
-returns-4 c = rw (ne-eqb _ _ (c .before .before .before .if1 .left), ne-eqb _ _ (c .before .before .if2 .left), ne-eqb _ _ (c .before .if3 .left), eq-eqb _ _ (c .if4 .taken))
+returns-4 c =
+    let first = c .before .before .before .if1 in
+    let second = c .before .before .if2 in
+    let third = c .before .if3 in
+    let fourth = c .if4 in
+    rw (ne-eqb _ _ (first .left), ne-eqb _ _ (second .left), ne-eqb _ _ (third .left), eq-eqb _ _ (fourth .taken))
 
--- src/request.rt:189:16
 add-result : tie.Need-add-result
 add-result c = search needs
 
--- src/request.rt:189:9
 returns-5 : tie.Need-returns-5
 unfolding bodyAsked
-returns-5 c = rw (ne-eqb _ _ (c .before .before .before .before .if1 .left), ne-eqb _ _ (c .before .before .before .if2 .left), ne-eqb _ _ (c .before .before .if3 .left), ne-eqb _ _ (c .before .if4 .left), eq-eqb _ _ (c .if5 .taken))
+returns-5 c =
+    let first = c .before .before .before .before .if1 in
+    let second = c .before .before .before .if2 in
+    let third = c .before .before .if3 in
+    let fourth = c .before .if4 in
+    let fifth = c .if5 in
+    rw (ne-eqb _ _ (first .left), ne-eqb _ _ (second .left), ne-eqb _ _ (third .left), ne-eqb _ _ (fourth .left), eq-eqb _ _ (fifth .taken))
 
--- src/request.rt:192:9
 returns-6 : tie.Need-returns-6
 unfolding bodyAsked
-returns-6 c = rw (ne-eqb _ _ (c .before .before .before .before .before .if1 .left), ne-eqb _ _ (c .before .before .before .before .if2 .left), ne-eqb _ _ (c .before .before .before .if3 .left), ne-eqb _ _ (c .before .before .if4 .left), ne-eqb _ _ (c .before .if5 .left), eq-eqb _ _ (c .if6 .taken))
+returns-6 c =
+    let first = c .before .before .before .before .before .if1 in
+    let second = c .before .before .before .before .if2 in
+    let third = c .before .before .before .if3 in
+    let fourth = c .before .before .if4 in
+    let fifth = c .before .if5 in
+    let sixth = c .if6 in
+    rw (
+      ne-eqb _ _ (first .left),
+      ne-eqb _ _ (second .left),
+      ne-eqb _ _ (third .left),
+      ne-eqb _ _ (fourth .left),
+      ne-eqb _ _ (fifth .left),
+      eq-eqb _ _ (sixth .taken),
+    )
 
--- src/request.rt:173:1
 returns-7 : tie.Need-returns-7
 unfolding bodyAsked
-returns-7 c = rw (ne-eqb _ _ (c .before .before .before .before .before .before .if1 .left), ne-eqb _ _ (c .before .before .before .before .before .if2 .left), ne-eqb _ _ (c .before .before .before .before .if3 .left), ne-eqb _ _ (c .before .before .before .if4 .left), ne-eqb _ _ (c .before .before .if5 .left), ne-eqb _ _ (c .before .if6 .left), eq-eqb _ _ (c .if7 .taken))
+returns-7 c =
+    let first = c .before .before .before .before .before .before .if1 in
+    let second = c .before .before .before .before .before .if2 in
+    let third = c .before .before .before .before .if3 in
+    let fourth = c .before .before .before .if4 in
+    let fifth = c .before .before .if5 in
+    let sixth = c .before .if6 in
+    let if7 = c .if7 in
+    rw (
+      ne-eqb _ _ (first .left),
+      ne-eqb _ _ (second .left),
+      ne-eqb _ _ (third .left),
+      ne-eqb _ _ (fourth .left),
+      ne-eqb _ _ (fifth .left),
+      ne-eqb _ _ (sixth .left),
+      eq-eqb _ _ (if7 .taken),
+    )
 
--- src/request.rt:173:1
 returns-8 : tie.Need-returns-8
 unfolding bodyAsked
-returns-8 c = rw (ne-eqb _ _ (c .before .before .before .before .before .before .if1 .left), ne-eqb _ _ (c .before .before .before .before .before .if2 .left), ne-eqb _ _ (c .before .before .before .before .if3 .left), ne-eqb _ _ (c .before .before .before .if4 .left), ne-eqb _ _ (c .before .before .if5 .left), ne-eqb _ _ (c .before .if6 .left), ne-eqb _ _ (c .if7 .left))
+returns-8 c =
+    let first = c .before .before .before .before .before .before .if1 in
+    let second = c .before .before .before .before .before .if2 in
+    let third = c .before .before .before .before .if3 in
+    let fourth = c .before .before .before .if4 in
+    let fifth = c .before .before .if5 in
+    let sixth = c .before .if6 in
+    let if7 = c .if7 in
+    rw (
+      ne-eqb _ _ (first .left),
+      ne-eqb _ _ (second .left),
+      ne-eqb _ _ (third .left),
+      ne-eqb _ _ (fourth .left),
+      ne-eqb _ _ (fifth .left),
+      ne-eqb _ _ (sixth .left),
+      ne-eqb _ _ (if7 .left),
+    )
 
 pub body-asked-spec : {M : Type 1} → statement M
 body-asked-spec =

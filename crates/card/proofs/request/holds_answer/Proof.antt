@@ -1,26 +1,21 @@
+-- `card::request::holds_answer` meets its contract: the definition goes by the same four tests. Assumes nothing.
 use borrow.Author.Tests.{eq-eqb, ne-eqb, le-leb, lt-leb}
 use Rattle.card.specs.Request.{holdsAnswer}
 use Rattle.card.proofs.request.holds_answer.Statement.{statement}
 use Rattle.card.proofs.request.holds_answer.Tie as tie
-use Rattle.card.proofs.request.holds_answer.Reads as reads
-use Rattle.card.proofs.request.holds_answer.Lts as lts
 
--- src/request.rt:197:9
 returns : tie.Need-returns
 unfolding holdsAnswer
 returns c = rw (eq-eqb _ _ (c .if1 .taken))
 
--- src/request.rt:200:9
 returns-2 : tie.Need-returns-2
 unfolding holdsAnswer
 returns-2 c = rw (ne-eqb _ _ (c .before .if1 .left), eq-eqb _ _ (c .if2 .taken))
 
--- src/request.rt:203:9
 returns-3 : tie.Need-returns-3
 unfolding holdsAnswer
 returns-3 c = rw (ne-eqb _ _ (c .before .before .if1 .left), ne-eqb _ _ (c .before .if2 .left), lt-leb _ _ (c .if3 .taken))
 
--- src/request.rt:193:1
 returns-4 : tie.Need-returns-4
 unfolding holdsAnswer
 returns-4 c = rw (ne-eqb _ _ (c .before .before .if1 .left), ne-eqb _ _ (c .before .if2 .left), le-leb _ _ (c .if3 .left))

@@ -1,21 +1,17 @@
+-- `card::request::is_listed` meets its contract: the definition goes by the same three tests. Assumes nothing.
 use borrow.Author.Tests.{le-leb, lt-leb}
 use Rattle.card.specs.Request.{isListed}
 use Rattle.card.proofs.request.is_listed.Statement.{statement}
 use Rattle.card.proofs.request.is_listed.Tie as tie
-use Rattle.card.proofs.request.is_listed.Reads as reads
-use Rattle.card.proofs.request.is_listed.Lts as lts
 
--- src/request.rt:165:9
 returns : tie.Need-returns
 unfolding isListed
 returns c = rw (lt-leb _ _ (c .if1 .taken))
 
--- src/request.rt:168:9
 returns-2 : tie.Need-returns-2
 unfolding isListed
 returns-2 c = rw (le-leb _ _ (c .before .if1 .left), lt-leb _ _ (c .if2 .taken))
 
--- src/request.rt:161:1
 returns-3 : tie.Need-returns-3
 unfolding isListed
 returns-3 c = rw (le-leb _ _ (c .before .if1 .left), le-leb _ _ (c .if2 .left))

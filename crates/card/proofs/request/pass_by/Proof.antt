@@ -1,43 +1,42 @@
+-- `card::request::pass_by` meets its contract: by the one test. Assumes nothing.
 use borrow.Author.Needs.{needs}
 use Rattle.card.specs.Request.{passedBy}
 use Rattle.card.proofs.request.pass_by.Statement.{statement}
 use Rattle.card.proofs.request.pass_by.Tie as tie
-use Rattle.card.proofs.request.pass_by.Reads as reads
-use Rattle.card.proofs.request.pass_by.Lts as lts
-use Rattle.card.proofs.Card.in_mode.Reads as in-mode-reads
-use Rattle.card.proofs.record.is_selected.Reads as is-selected-reads
-use Rattle.card.proofs.request.both.Reads as both-reads
-use Rattle.card.proofs.request.silence.Reads as silence-reads
 
--- src/request.rt:317:30
 is-selected-requires : tie.Need-is-selected-requires
 is-selected-requires c κs = search needs
 
--- src/request.rt:317:8
 both-requires : tie.Need-both-requires
 both-requires c κs = search needs
 
--- src/request.rt:318:17
 in-mode-requires : tie.Need-in-mode-requires
 in-mode-requires c κs = search needs
 
--- src/request.rt:318:9
 silence-requires : tie.Need-silence-requires
 silence-requires c κs = search needs
 
--- src/request.rt:320:9
 silence-requires-2 : tie.Need-silence-requires-2
 silence-requires-2 c κs = search needs
 
--- src/request.rt:313:1
 returns : tie.Need-returns
 unfolding passedBy
-returns c = rw (c .silence .ensures, c .before .in-mode .ensures, ← (c .before .before .before .before .is-selected .ensures), ← (c .before .before .before .both .ensures), c .before .before .if1 .taken)
+returns c =
+    let silence = c .silence in
+    let in-mode = c .before .in-mode in
+    let is-selected = c .before .before .before .before .is-selected in
+    let both = c .before .before .before .both in
+    let first = c .before .before .if1 in
+    rw (silence .ensures, in-mode .ensures, ← (is-selected .ensures), ← (both .ensures), first .taken)
 
--- src/request.rt:313:1
 returns-2 : tie.Need-returns-2
 unfolding passedBy
-returns-2 c = rw (c .silence2 .ensures, ← (c .before .before .before .is-selected .ensures), ← (c .before .before .both .ensures), c .before .if1 .left)
+returns-2 c =
+    let silence2 = c .silence2 in
+    let is-selected = c .before .before .before .is-selected in
+    let both = c .before .before .both in
+    let first = c .before .if1 in
+    rw (silence2 .ensures, ← (is-selected .ensures), ← (both .ensures), first .left)
 
 pub pass-by-spec : {M : Type 1} → statement M
 pass-by-spec =

@@ -1,26 +1,21 @@
+-- `card::request::refuses_option` meets its contract: the definition goes by the same four tests. Assumes nothing.
 use borrow.Author.Tests.{eq-eqb, ne-eqb}
 use Rattle.card.specs.Request.{refusesOption}
 use Rattle.card.proofs.request.refuses_option.Statement.{statement}
 use Rattle.card.proofs.request.refuses_option.Tie as tie
-use Rattle.card.proofs.request.refuses_option.Reads as reads
-use Rattle.card.proofs.request.refuses_option.Lts as lts
 
--- src/request.rt:201:9
 returns : tie.Need-returns
 unfolding refusesOption
 returns c = rw (eq-eqb _ _ (c .if1 .taken))
 
--- src/request.rt:204:9
 returns-2 : tie.Need-returns-2
 unfolding refusesOption
 returns-2 c = rw (ne-eqb _ _ (c .before .if1 .left), eq-eqb _ _ (c .if2 .taken))
 
--- src/request.rt:207:9
 returns-3 : tie.Need-returns-3
 unfolding refusesOption
 returns-3 c = rw (ne-eqb _ _ (c .before .before .if1 .left), ne-eqb _ _ (c .before .if2 .left), eq-eqb _ _ (c .if3 .taken))
 
--- src/request.rt:197:1
 returns-4 : tie.Need-returns-4
 unfolding refusesOption
 returns-4 c = rw (ne-eqb _ _ (c .before .before .if1 .left), ne-eqb _ _ (c .before .if2 .left), ne-eqb _ _ (c .if3 .left))

@@ -1,36 +1,26 @@
+-- `card::request::request` meets its contract: by the two flags. Assumes nothing.
 use borrow.Author.Needs.{needs}
 use Rattle.card.specs.Request.{requested}
 use Rattle.card.proofs.request.request.Statement.{statement}
 use Rattle.card.proofs.request.request.Tie as tie
-use Rattle.card.proofs.request.request.Reads as reads
-use Rattle.card.proofs.request.request.Lts as lts
-use Rattle.card.proofs.request.by_address.Reads as by-address-reads
-use Rattle.card.proofs.request.by_mode.Reads as by-mode-reads
-use Rattle.card.proofs.request.silence.Reads as silence-reads
 
--- src/request.rt:364:13
 silence-requires : tie.Need-silence-requires
 silence-requires c κs = search needs
 
--- src/request.rt:366:13
 by-address-requires : tie.Need-by-address-requires
 by-address-requires c κs = search needs
 
--- src/request.rt:369:9
 by-mode-requires : tie.Need-by-mode-requires
 by-mode-requires c κs = search needs
 
--- src/request.rt:359:1
 returns : tie.Need-returns
 unfolding requested
 returns c = rw (c .silence .ensures, c .before .before .if1 .taken, c .before .if2 .taken)
 
--- src/request.rt:359:1
 returns-2 : tie.Need-returns-2
 unfolding requested
 returns-2 c = rw (c .by-address .ensures, c .before .before .if1 .taken, c .before .if2 .left)
 
--- src/request.rt:359:1
 returns-3 : tie.Need-returns-3
 unfolding requested
 returns-3 c = rw (c .by-mode .ensures, c .before .if1 .left)

@@ -1,50 +1,52 @@
+-- `card::request::sort` meets its contract: the definition goes by the same two tests. Assumes nothing.
 use borrow.Author.Needs.{needs}
 use borrow.Author.Tests.{eq-eqb, ne-eqb, lt-ltb, le-ltb, not-true, not-false}
 use Rattle.card.specs.Request.{sorted}
 use Rattle.card.proofs.request.sort.Statement.{statement}
 use Rattle.card.proofs.request.sort.Tie as tie
-use Rattle.card.proofs.request.sort.Reads as reads
-use Rattle.card.proofs.request.sort.Lts as lts
-use Rattle.card.proofs.inventory.byte_at.Reads as byte-at-reads
-use Rattle.card.proofs.request.both.Reads as both-reads
-use Rattle.card.proofs.request.judge.Reads as judge-reads
-use Rattle.card.proofs.request.quiet.Reads as quiet-reads
-use Rattle.card.proofs.request.silence.Reads as silence-reads
 
--- src/request.rt:303:9
 byte-at-requires : tie.Need-byte-at-requires
 byte-at-requires c κs = search needs
 
--- src/request.rt:305:9
 quiet-requires : tie.Need-quiet-requires
 quiet-requires c κs = search needs
 
--- src/request.rt:305:9
 returns : tie.Need-returns
 unfolding sorted
-returns c = rw (← (c .before .before .byte-at .ensures), eq-eqb (c .before .before .byte-at .result) 2 (c .before .if1 .taken)) (c .quiet .ensures)
+returns c =
+    let byte-at = c .before .before .byte-at in
+    let first = c .before .if1 in
+    let quiet = c .quiet in
+    rw (← (byte-at .ensures), eq-eqb (byte-at .result) 2 (first .taken)) (quiet .ensures)
 
--- src/request.rt:307:8
 both-requires : tie.Need-both-requires
 both-requires c κs = search needs
 
--- src/request.rt:308:9
 silence-requires : tie.Need-silence-requires
 silence-requires c κs = search needs
 
--- src/request.rt:308:9
 returns-2 : tie.Need-returns-2
 unfolding sorted
-returns-2 c = rw (← (c .before .before .before .before .before .byte-at .ensures), ne-eqb (c .before .before .before .before .before .byte-at .result) 2 (c .before .before .before .before .if1 .left), ← (c .before .before .both .ensures), c .before .if2 .taken) (c .silence .ensures)
+returns-2 c =
+    let byte-at = c .before .before .before .before .before .byte-at in
+    let first = c .before .before .before .before .if1 in
+    let both = c .before .before .both in
+    let second = c .before .if2 in
+    let silence = c .silence in
+    rw (← (byte-at .ensures), ne-eqb (byte-at .result) 2 (first .left), ← (both .ensures), second .taken) (silence .ensures)
 
--- src/request.rt:310:5
 judge-requires : tie.Need-judge-requires
 judge-requires c κs = search needs
 
--- src/request.rt:299:1
 returns-3 : tie.Need-returns-3
 unfolding sorted
-returns-3 c = rw (← (c .before .before .before .before .before .byte-at .ensures), ne-eqb (c .before .before .before .before .before .byte-at .result) 2 (c .before .before .before .before .if1 .left), ← (c .before .before .both .ensures), c .before .if2 .left) (c .judge .ensures)
+returns-3 c =
+    let byte-at = c .before .before .before .before .before .byte-at in
+    let first = c .before .before .before .before .if1 in
+    let both = c .before .before .both in
+    let second = c .before .if2 in
+    let judge = c .judge in
+    rw (← (byte-at .ensures), ne-eqb (byte-at .result) 2 (first .left), ← (both .ensures), second .left) (judge .ensures)
 
 pub sort-spec : {M : Type 1} → statement M
 sort-spec =

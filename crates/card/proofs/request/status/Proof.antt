@@ -1,34 +1,26 @@
+-- `card::request::status` meets its contract: by the one test. Assumes nothing.
 use borrow.Author.Needs.{needs}
 use borrow.Author.Tests.{lt-ltb, le-ltb}
 use Rattle.card.specs.Request.{tells-locks}
 use Rattle.card.proofs.request.status.Statement.{statement}
 use Rattle.card.proofs.request.status.Tie as tie
-use Rattle.card.proofs.request.status.Reads as reads
-use Rattle.card.proofs.request.status.Lts as lts
-use Rattle.card.proofs.request.answer.Reads as answer-reads
 
--- src/request.rt:154:8
 add-if1 : tie.Need-add-if1
 add-if1 c = search needs
 
--- src/request.rt:155:42
 add-t9 : tie.Need-add-t9
 add-t9 c = search needs
 
--- src/request.rt:155:9
 answer-requires : tie.Need-answer-requires
 answer-requires c κs = search needs
 
--- src/request.rt:157:9
 answer-requires-2 : tie.Need-answer-requires-2
 answer-requires-2 c κs = search needs
 
--- src/request.rt:149:1
 returns : tie.Need-returns
 unfolding tells-locks
 returns c = rw (lt-ltb _ _ (c .before .if1 .taken)) (c .answer .ensures)
 
--- src/request.rt:149:1
 returns-2 : tie.Need-returns-2
 unfolding tells-locks
 returns-2 c = rw (le-ltb _ _ (c .before .if1 .left)) (c .answer2 .ensures)

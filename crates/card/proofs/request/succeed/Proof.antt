@@ -1,21 +1,16 @@
+-- `card::request::succeed` meets its contract: by the test. Assumes nothing.
 use borrow.Author.Needs.{needs}
 use Rattle.card.specs.Request.{done}
 use Rattle.card.proofs.request.succeed.Statement.{statement}
 use Rattle.card.proofs.request.succeed.Tie as tie
-use Rattle.card.proofs.request.succeed.Reads as reads
-use Rattle.card.proofs.request.succeed.Lts as lts
-use Rattle.card.proofs.Card.holding.Reads as holding-reads
 
--- src/request.rt:37:19
 holding-requires : tie.Need-holding-requires
 holding-requires c κs = search needs
 
--- src/request.rt:32:1
 returns : tie.Need-returns
 unfolding done
 returns c = rw (c .before .if1 .taken, c .holding .ensures)
 
--- src/request.rt:32:1
 returns-2 : tie.Need-returns-2
 unfolding done
 returns-2 c = rw (c .if1 .left)

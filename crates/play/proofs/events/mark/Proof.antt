@@ -1,3 +1,4 @@
+-- `play::events::mark` meets its contract: refused, or the turn's reply (EventWays.antt). Assumes nothing.
 use borrow.Author.Needs.{needs}
 use mathlib.Core.Path.{refl, sym, _∙_}
 use lib.ListN.{length}
@@ -6,37 +7,45 @@ use Rattle.play.proofs.EventWays.{leaves-refused, leaves-served, leaves
 use Rattle.play.proofs.ReadyFor.{mark-ready}
 use Rattle.play.proofs.events.mark.Statement.{statement}
 use Rattle.play.proofs.events.mark.Tie as tie
-use Rattle.play.proofs.events.mark.Reads as reads
-use Rattle.play.proofs.events.mark.Lts as lts
-use Rattle.card.proofs.Card.hear_mark.Reads as hear-mark-reads
-use Rattle.play.proofs.events.reply_to.Reads as reply-to-reads
-use Rattle.play.proofs.refusal.refusal.Reads as refusal-reads
 
--- src/events.rt:67:9
 refusal-requires : tie.Need-refusal-requires
 refusal-requires c κs = search needs
 
--- src/events.rt:69:9
 returns : tie.Need-returns
 unfolding markEvent
-returns c = leaves-refused (c .before .before .before .before .before .args .card) (c .before .before .before .before .before .args .memory .now) (c .before .before .before .before .before .args .locks .now) (c .before .before .before .before .before .args .answer .now) _ (c .before .refusal .result) (c .before .refusal .ensures) (c .if1 .taken)
+returns c =
+    let args = c .before .before .before .before .before .args in
+    let refusal = c .before .refusal in
+    let first = c .if1 in
+    leaves-refused (args .card) (args .memory .now) (args .locks .now) (args .answer .now) _ (refusal .result) (refusal .ensures) (first .taken)
 
--- src/events.rt:75:9
 hear-mark-requires : tie.Need-hear-mark-requires
 hear-mark-requires c κs = search needs
 
--- src/events.rt:78:5
 reply-to-requires : tie.Need-reply-to-requires
-reply-to-requires c κs = let t = mark-ready (c .before .before .before .before .before .before .before .before .args .card) (length (c .before .before .before .before .before .before .before .before .args .memory .now)) (c .before .before .before .before .before .before .before .before .args .locks .now) (length (c .before .before .before .before .before .before .before .before .args .answer .now)) (c .before .before .before .before .refusal .result) (c .before .before .hear-mark .result) (c .before .before .before .before .refusal .ensures) (c .before .before .before .if1 .left) (c .before .before .hear-mark .ensures) in (t .ready .shape, (t .reply, (t .ready .stored, (t .ready .marks, t .ready .fits))))
+reply-to-requires c κs =
+    let args = c .before .before .before .before .before .before .before .before .args in
+    let refusal = c .before .before .before .before .refusal in
+    let hear-mark = c .before .before .hear-mark in
+    let first = c .before .before .before .if1 in
+    let t = mark-ready (args .card) (length (args .memory .now)) (args .locks .now) (length (args .answer .now))
+        (refusal .result) (hear-mark .result) (refusal .ensures) (first .left) (hear-mark .ensures) in
+    (t .ready .shape, (t .reply, (t .ready .stored, (t .ready .marks, t .ready .fits))))
 
--- src/events.rt:64:1
 same-length : tie.Need-same-length
 same-length c = search needs
 
--- src/events.rt:64:1
 returns-2 : tie.Need-returns-2
 unfolding markEvent
-returns-2 c = leaves-served (c .before .before .before .before .before .before .before .before .before .before .before .args .card) (c .before .before .before .before .before .before .before .before .before .before .before .args .memory .now) (c .before .before .before .before .before .before .before .before .before .before .before .args .locks .now) (c .before .before .before .before .before .before .before .before .before .before .before .args .answer .now) _ (c .before .before .before .before .before .before .before .refusal .result) (c .before .before .before .before .before .before .before .refusal .ensures) _ _ _ _ (c .before .before .before .before .before .before .if1 .left) (leaves-turn (c .before .before .before .before .before .before .before .before .before .before .before .args .card) (c .before .before .before .before .before .hear-mark .result) (c .before .before .before .before .before .before .before .before .before .before .before .args .memory .now) (c .before .before .before .before .before .before .before .before .before .before .before .args .locks .now) (c .before .before .before .before .before .before .before .before .before .before .before .args .answer .now) _ _ (c .before .before .before .before .before .hear-mark .ensures) (c .before .before .reply-to .ensures))
+returns-2 c =
+    let args = c .before .before .before .before .before .before .before .before .before .before .before .args in
+    let refusal = c .before .before .before .before .before .before .before .refusal in
+    let first = c .before .before .before .before .before .before .if1 in
+    let hear-mark = c .before .before .before .before .before .hear-mark in
+    let reply-to = c .before .before .reply-to in
+    leaves-served (args .card) (args .memory .now) (args .locks .now) (args .answer .now) _ (refusal .result)
+    (refusal .ensures) _ _ _ _ (first .left) (leaves-turn (args .card) (hear-mark .result) (args .memory .now) (args .locks .now)
+    (args .answer .now) _ _ (hear-mark .ensures) (reply-to .ensures))
 
 pub mark-spec : {M : Type 1} → statement M
 mark-spec =

@@ -62,7 +62,15 @@ returns-4 c =
     let args = c .before .before .before .before .before .before .before .before .before .before .args in
     let put-track = c .before .before .put-track in
     let third = c .before .before .before .before .if3 in
-    rw (unit-of .ensures, toZ-pos w64 (2 + unit (args .coding) * length (args .frame .now)) (omega (arith, units-most (args .coding) (length (args .frame .now)))), put-track .ensures) (codes-served _ _ _ (omega arith) (omega arith) (rw (unit-of .ensures) at (third .left)))
+    rw (
+      unit-of .ensures,
+      toZ-pos w64 (2 + unit (args .coding) * length (args .frame .now)) (omega (
+        arith,
+        units-most (args .coding)
+            (length (args .frame .now)),
+      )),
+      put-track .ensures,
+    ) (codes-served _ _ _ (omega arith) (omega arith) (rw (unit-of .ensures) at (third .left)))
 
 pub code-spec : {M : Type 1} → statement M
 code-spec =

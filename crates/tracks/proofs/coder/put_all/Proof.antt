@@ -67,8 +67,15 @@ loop-again c =
     let loop = c .before .before .before .before .before .before .loop in
     let args = c .before .before .before .before .before .before .before .before .before .before .args in
     let test = c .before .before .before .before .before .loop-test in
-    let asked = c .before .before .before .before .before .before .before .before .before .before .pre in
-    (omega arith, omega arith, unit-of .ensures, omega arith, rw (put .ensures, loop .inv .4, loop .inv .3) (placed-pulses-suc (args .coding) (loop .i) (args .frame .now) (args .track .now) (test .taken) (unit-room (args .coding) (loop .i) (length (args .frame .now)) (length (args .track .now)) (test .taken) (asked))))
+    let asked = c .before .before .before .before .before .before .before .before .before .before .pre in (
+      omega arith,
+      omega arith,
+      unit-of .ensures,
+      omega arith,
+      rw (put .ensures, loop .inv .4, loop .inv .3) (placed-pulses-suc (args .coding)
+          (loop .i) (args .frame .now) (args .track .now) (test .taken) (unit-room (args .coding) (loop .i) (length (args .frame .now))
+          (length (args .track .now)) (test .taken) (asked))),
+    )
 
 same-length : tie.Need-same-length Inv-loop μ-loop
 same-length c = omega arith

@@ -32,7 +32,11 @@ returns c =
     let put-all = c .before .before .put-all in
     let start-of = c .before .before .before .before .start-of in
     let args = c .before .before .before .before .before .before .before .args in
-    rw (put-all .ensures, start-of .ensures) (placed-track _ _ _ _ (args .n - 1) (omega (arith, length-pulses (args .coding) (args .frame .now))) (omega arith))
+    rw (put-all .ensures, start-of .ensures) (placed-track _ _ _ _ (args .n - 1) (omega (
+      arith,
+      length-pulses (args .coding)
+          (args .frame .now),
+    )) (omega arith))
 
 pub put-track-spec : {M : Type 1} → statement M
 put-track-spec =

@@ -45,7 +45,11 @@ returns c =
     let test = c .before .before .loop-test in
     let byte-at = c .before .byte-at in
     let first = c .if1 in
-    rw (← (loop .inv .3), are-bytes-more (args .coding) (args .n) (loop .i) (loop .at) (args .track .now) (test .taken), le-ltb (byteOf (args .coding) (take (unit (args .coding)) (drop (loop .at) (args .track .now)))) 256 (rw (byte-at .ensures) at (first .taken)))
+    rw (
+      ← (loop .inv .3),
+      are-bytes-more (args .coding) (args .n) (loop .i) (loop .at) (args .track .now) (test .taken),
+      le-ltb (byteOf (args .coding) (take (unit (args .coding)) (drop (loop .at) (args .track .now)))) 256 (rw (byte-at .ensures) at (first .taken)),
+    )
 
 add-at : tie.Need-add-at Inv-loop μ-loop
 add-at c =
@@ -68,8 +72,19 @@ loop-again c =
     let args = c .before .before .before .before .before .before .args in
     let test = c .before .before .loop-test in
     let byte-at = c .before .byte-at in
-    let first = c .if1 in
-    (omega arith, unit-of .ensures, omega arith, rw (← (loop .inv .3), are-bytes-more (args .coding) (args .n) (loop .i) (loop .at) (args .track .now) (test .taken), lt-ltb (byteOf (args .coding) (take (unit (args .coding)) (drop (loop .at) (args .track .now)))) 256 (rw (byte-at .ensures) at (first .left)), unit-of .ensures))
+    let first = c .if1 in (
+      omega arith,
+      unit-of .ensures,
+      omega arith,
+      rw (
+        ← (loop .inv .3),
+        are-bytes-more (args .coding) (args .n) (loop .i) (loop .at)
+            (args .track .now) (test .taken),
+        lt-ltb (byteOf (args .coding) (take (unit (args .coding)) (drop (loop .at)
+            (args .track .now)))) 256 (rw (byte-at .ensures) at (first .left)),
+        unit-of .ensures,
+      ),
+    )
 
 returns-2 : tie.Need-returns-2 Inv-loop μ-loop
 returns-2 c =

@@ -61,7 +61,8 @@ returns-4 c =
     let third = c .before .if3 in
     let start-of = c .before .before .start-of in
     let fourth = c .if4 in
-    not-short (args .coding) (args .track .now) (rw (unit-of .ensures) at (second .left)) (third .left ∙ start-of .ensures) (rw (unit-of .ensures) at (fourth .taken))
+    not-short (args .coding) (args .track .now) (rw (unit-of .ensures) at (second .left)) (third .left ∙ start-of .ensures)
+    (rw (unit-of .ensures) at (fourth .taken))
 
 sub-if5 : tie.Need-sub-if5
 sub-if5 c = search needs
@@ -79,7 +80,8 @@ returns-5 c =
     let start-of = c .before .before .before .before .start-of in
     let fourth = c .before .before .if4 in
     let fifth = c .if5 in
-    not-end (args .coding) (args .track .now) (rw (unit-of .ensures) at (second .left)) (third .left ∙ start-of .ensures) (rw (unit-of .ensures) at (fourth .left)) (fifth .taken)
+    not-end (args .coding) (args .track .now) (rw (unit-of .ensures) at (second .left)) (third .left ∙ start-of .ensures)
+    (rw (unit-of .ensures) at (fourth .left)) (fifth .taken)
 
 all-bytes-requires : tie.Need-all-bytes-requires
 all-bytes-requires c κs = rw (← (c .before .before .before .before .before .before .before .unit-of .ensures)) (omega arith)
@@ -96,7 +98,9 @@ returns-6 c =
     let fifth = c .before .before .if5 in
     let all-bytes = c .before .all-bytes in
     let sixth = c .if6 in
-    rw (unit-of .ensures) (all-right (args .coding) (args .track .now) (rw (unit-of .ensures) at (second .left)) (third .left ∙ start-of .ensures) (rw (unit-of .ensures) at (fourth .left)) (fifth .left) (rw (unit-of .ensures) at (sym (all-bytes .ensures) ∙ sixth .taken)))
+    rw (unit-of .ensures) (all-right (args .coding) (args .track .now) (rw (unit-of .ensures) at (second .left))
+    (third .left ∙ start-of .ensures) (rw (unit-of .ensures) at (fourth .left)) (fifth .left)
+    (rw (unit-of .ensures) at (sym (all-bytes .ensures) ∙ sixth .taken)))
 
 returns-7 : tie.Need-returns-7
 unfolding countOf longest
@@ -110,7 +114,8 @@ returns-7 c =
     let fifth = c .before .before .if5 in
     let all-bytes = c .before .all-bytes in
     let sixth = c .if6 in
-    not-bytes (args .coding) (args .track .now) (rw (unit-of .ensures) at (second .left)) (third .left ∙ start-of .ensures) (rw (unit-of .ensures) at (fourth .left)) (fifth .left) (rw (unit-of .ensures) at (sym (all-bytes .ensures) ∙ sixth .left))
+    not-bytes (args .coding) (args .track .now) (rw (unit-of .ensures) at (second .left)) (third .left ∙ start-of .ensures)
+    (rw (unit-of .ensures) at (fourth .left)) (fifth .left) (rw (unit-of .ensures) at (sym (all-bytes .ensures) ∙ sixth .left))
 
 pub length-as-spec : {M : Type 1} → statement M
 length-as-spec =

@@ -58,7 +58,8 @@ returns-3 c =
     let second = c .before .before .if2 in
     let third = c .if3 in
     let zeros-at2 = c .before .zeros-at2 in
-    lone-two (args .track .now) (args .at) (asked) (zeros-at .result) (zeros-at .ensures) (first .left) (rw (pair-of .ensures) at (second .left)) (λ e. third .taken (zeros-at2 .ensures ∙ e))
+    lone-two (args .track .now) (args .at) (asked) (zeros-at .result) (zeros-at .ensures) (first .left)
+    (rw (pair-of .ensures) at (second .left)) (λ e. third .taken (zeros-at2 .ensures ∙ e))
 
 mul-result : tie.Need-mul-result
 mul-result c = search needs
@@ -82,7 +83,8 @@ returns-4 c =
     let second = c .before .before .if2 in
     let zeros-at2 = c .before .zeros-at2 in
     let third = c .if3 in
-    rw (pair-of .ensures) (lone-one (args .track .now) (args .at) (asked) (zeros-at .result) (zeros-at .ensures) (first .left) (rw (pair-of .ensures) at (second .left)) (sym (zeros-at2 .ensures) ∙ third .left))
+    rw (pair-of .ensures) (lone-one (args .track .now) (args .at) (asked) (zeros-at .result) (zeros-at .ensures) (first .left)
+    (rw (pair-of .ensures) at (second .left)) (sym (zeros-at2 .ensures) ∙ third .left))
 
 pub lone-at-spec : {M : Type 1} → statement M
 lone-at-spec =

@@ -52,7 +52,11 @@ cast-frame c =
     let args = c .before .before .before .before .before .before .args in
     let loop = c .before .before .loop in
     let test = c .before .loop-test in
-    rw (byte-at .ensures) (omega (arith, are-bytes-next (args .coding) (args .n) (loop .i) (loop .at) (args .track .now) (test .taken) (loop .inv .4) .0))
+    rw (byte-at .ensures) (omega (
+      arith,
+      are-bytes-next (args .coding) (args .n) (loop .i) (loop .at) (args .track .now) (test .taken)
+          (loop .inv .4) .0,
+    ))
 
 slice-write-frame : tie.Need-slice-write-frame Inv-loop μ-loop
 slice-write-frame c = omega arith
@@ -77,8 +81,16 @@ loop-again c =
     let unit-of = c .before .before .before .unit-of in
     let args = c .before .before .before .before .before .before .args in
     let test = c .before .loop-test in
-    let byte-at = c .byte-at in
-    (omega arith, simp length-set (loop .inv .1), unit-of .ensures, omega arith, rw (unit-of .ensures) (are-bytes-next (args .coding) (args .n) (loop .i) (loop .at) (args .track .now) (test .taken) (loop .inv .4) .1), rw (byte-at .ensures, loop .inv .5, loop .inv .3) (placed-bytes-suc (args .coding) (loop .i) (args .track .now) (args .frame .now) (omega arith)))
+    let byte-at = c .byte-at in (
+      omega arith,
+      simp length-set (loop .inv .1),
+      unit-of .ensures,
+      omega arith,
+      rw (unit-of .ensures) (are-bytes-next (args .coding) (args .n)
+          (loop .i) (loop .at) (args .track .now) (test .taken) (loop .inv .4) .1),
+      rw (byte-at .ensures, loop .inv .5, loop .inv .3)
+          (placed-bytes-suc (args .coding) (loop .i) (args .track .now) (args .frame .now) (omega arith)),
+    )
 
 same-length : tie.Need-same-length Inv-loop μ-loop
 same-length c = omega arith
