@@ -2,11 +2,11 @@
 -- The definitions stand in the folders specs/ of the crates, each under the sentence of the rules page that it says. That every function
 -- meets its promise, never leaves what it was lent, and always returns, is what the gate's last line says of the crates themselves.
 use mathlib.Core.Path.{_≡_}
-use mathlib.Core.Bool.{Bool, true}
+use mathlib.Core.Bool.{Bool, true, false}
 use mathlib.Core.List.{List}
 use Prim.Native.Nat.{ℕ, _+_, _-_, _≤_, _<_}
 use lib.IntN.{ℤ}
-use lib.ListN.{length, take}
+use lib.ListN.{length, take, getD}
 use Rattle.lent.specs.Lent.{over}
 use Rattle.crc.specs.Check.{sealed, checkOf, isSealed}
 use Rattle.crc.proofs.Seal.{is-sealed-of-sealed, sealed-of-is-sealed}
@@ -25,6 +25,22 @@ use Rattle.tracks.proofs.RoundTrip.{Bytes}
 use Rattle.tracks.proofs.Inverse.{Reads, decode-of-code, decode-reads, mark-no-track}
 use Rattle.tracks.proofs.Unique.{code-unique, decode-unique}
 use Rattle.tracks.proofs.Examples.{Tracks, tracks}
+use Rattle.card.specs.declared.Card.{Card}
+use Rattle.card.specs.declared.Turn.{Turn}
+use Rattle.card.specs.declared.Deed.{Deed}
+use Rattle.card.specs.Record.{cleared, isAccepted, poweredOff}
+use Rattle.card.specs.Mark.{marked}
+use Rattle.card.specs.Request.{silent}
+use Rattle.card.specs.Frame.{leaving, decided, heardInventory}
+use Rattle.card.proofs.Rules.{unsound-silent, inventory-frame}
+use Rattle.card.proofs.Unique.{is-accepted-unique, power-off-unique, hear-mark-unique, hear-inventory-unique, decide-unique}
+use Rattle.card.proofs.Examples.{Cards, cards}
+use Rattle.play.specs.declared.Served.{Served}
+use Rattle.play.specs.Events.{Outcome, Leaves}
+use Rattle.play.proofs.Decided.{DeedFits}
+use Rattle.play.proofs.Turns.{decided-fits}
+use Rattle.play.proofs.Unique.{leaves-unique}
+use Rattle.play.proofs.Examples.{Information, information-shown}
 
 -- ---- The check
 
@@ -57,6 +73,20 @@ reading-anything = decode-reads
 -- The slot mark is no frame's track.
 mark-alone : (coding : ℕ) (frame : List ℕ) → trackOf coding frame ≡ slotMark → ⊥
 mark-alone = mark-no-track
+
+-- ---- The card (demand 2: "request to answer, next state and memory")
+
+-- A frame that is not sound gets silence, and the next state is fixed: sequence ended, held answer dropped.
+a-damaged-frame : (c : Card) (locks frame : List ℕ) → isSound frame ≡ false → decided c locks frame ≡ silent (cleared c)
+a-damaged-frame = unsound-silent
+
+-- What an inventory frame does to a card is what it does to the record alone.
+an-inventory-frame : (c : Card) (locks frame : List ℕ) → flagsOf (getD frame 0 0) .b3 ≡ true → decided c locks frame ≡ leaving (heardInventory c frame)
+an-inventory-frame = inventory-frame
+
+-- Whatever frame arrives, what is decided stays within the card's blocks and within the frame, and the shape stays.
+within-the-card : (card : Card) (locks frame : List ℕ) → DeedFits card frame (decided card locks frame)
+within-the-card = decided-fits
 
 -- ---- Every promise allows one result
 
@@ -91,11 +121,33 @@ decode-once : {t found : List ℕ} {r s : ℤ} {left right : List ℕ}
     → Decodes t found r left → Decodes t found s right → (r ≡ s) × (left ≡ right)
 decode-once = decode-unique
 
+is-accepted-once : (c : Card) (r s : Bool) → r ≡ isAccepted c → s ≡ isAccepted c → r ≡ s
+is-accepted-once = is-accepted-unique
+
+power-off-once : (c r s : Card) → r ≡ poweredOff c → s ≡ poweredOff c → r ≡ s
+power-off-once = power-off-unique
+
+hear-mark-once : (c : Card) (r s : Turn) → r ≡ marked c → s ≡ marked c → r ≡ s
+hear-mark-once = hear-mark-unique
+
+hear-inventory-once : (c : Card) (frame : List ℕ) (r s : Turn) → r ≡ heardInventory c frame → s ≡ heardInventory c frame → r ≡ s
+hear-inventory-once = hear-inventory-unique
+
+decide-once : (c : Card) (locks frame : List ℕ) (r s : Deed) → r ≡ decided c locks frame → s ≡ decided c locks frame → r ≡ s
+decide-once = decide-unique
+
+-- a frame, a slot mark and power off, each with its own outcome o
+event-once : (o : Outcome) (r s : Served) (memory memory′ locks locks′ answer answer′ : List ℕ)
+    → Leaves o r memory locks answer → Leaves o s memory′ locks′ answer′ → (r ≡ s) × (memory ≡ memory′) × (locks ≡ locks′) × (answer ≡ answer′)
+event-once = leaves-unique
+
 -- ---- The examples of the rules page, under a single statement
 
 record Examples : Type 0 where
   of-checks : Checks
   of-tracks : Tracks
+  of-cards : Cards
+  of-information : Information
 
 examples : Examples
-examples = record { of-checks = checks; of-tracks = tracks }
+examples = record { of-checks = checks; of-tracks = tracks; of-cards = cards; of-information = information-shown }
