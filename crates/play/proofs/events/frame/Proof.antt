@@ -33,7 +33,7 @@ change-memory-requires c κs =
     let decide = c .before .before .decide in
     let first = c .before .before .before .before .if1 in
     let d = deed-ready (args .card) (args .frame .now) (length (args .memory .now)) (args .locks .now) (length (args .answer .now))
-        (refusal .result) (decide .result) (refusal .ensures) (first .left) (decide .ensures) in
+    (refusal .result) (decide .result) (refusal .ensures) (first .left) (decide .ensures) in
     (d .effect, d .ready .stored)
 
 change-locks-requires : tie.Need-change-locks-requires
@@ -43,7 +43,7 @@ change-locks-requires c κs =
     let decide = c .before .before .before .before .before .before .decide in
     let first = c .before .before .before .before .before .before .before .before .if1 in
     let d = deed-ready (args .card) (args .frame .now) (length (args .memory .now)) (args .locks .now) (length (args .answer .now))
-        (refusal .result) (decide .result) (refusal .ensures) (first .left) (decide .ensures) in
+    (refusal .result) (decide .result) (refusal .ensures) (first .left) (decide .ensures) in
     lock-fits (decide .result .card) (args .frame .now) (args .locks .now) (decide .result .effect) (d .ready .marks) (d .effect)
 
 reply-to-requires : tie.Need-reply-to-requires
@@ -55,7 +55,7 @@ reply-to-requires c κs =
     let change-memory = c .before .before .before .before .before .before .before .before .before .change-memory in
     let change-locks = c .before .before .before .before .before .change-locks in
     let d = deed-ready (args .card) (args .frame .now) (length (args .memory .now)) (args .locks .now) (length (args .answer .now))
-        (refusal .result) (decide .result) (refusal .ensures) (first .left) (decide .ensures) in
+    (refusal .result) (decide .result) (refusal .ensures) (first .left) (decide .ensures) in
     (d .ready .shape, (d .reply, (change-memory .kept .1 .1 .1 .0 ∙ d .ready .stored, (change-locks .kept .1 .0 ∙ d .ready .marks, d .ready .fits))))
 
 same-length-2 : tie.Need-same-length-2

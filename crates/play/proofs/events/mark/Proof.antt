@@ -29,7 +29,7 @@ reply-to-requires c κs =
     let hear-mark = c .before .before .hear-mark in
     let first = c .before .before .before .if1 in
     let t = mark-ready (args .card) (length (args .memory .now)) (args .locks .now) (length (args .answer .now))
-        (refusal .result) (hear-mark .result) (refusal .ensures) (first .left) (hear-mark .ensures) in
+    (refusal .result) (hear-mark .result) (refusal .ensures) (first .left) (hear-mark .ensures) in
     (t .ready .shape, (t .reply, (t .ready .stored, (t .ready .marks, t .ready .fits))))
 
 same-length : tie.Need-same-length
