@@ -1,9 +1,9 @@
 // The card's record and its rules: what a frame, a slot mark and power off make of a card. Memory, lock bytes and answer are the crate play's.
-pub mod frame;
-pub mod inventory;
-pub mod mark;
-pub mod record;
-pub mod request;
+mod frame;
+mod inventory;
+mod mark;
+mod record;
+mod request;
 
 // Ready answers, Quiet is silent unless addressed, Selected answers to Select.
 pub enum Mode {

@@ -5,6 +5,7 @@ pub mod Within
 pub mod Answers
 pub mod Blocks
 pub mod Room
+pub mod Deeds
 pub mod Decided
 pub mod Turns
 pub mod EventWays

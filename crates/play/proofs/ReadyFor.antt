@@ -21,7 +21,7 @@ use Rattle.card.specs.Mark.{marked}
 use Rattle.play.specs.Refusal.{lengthsFit, locksFit, roomFits, refusal}
 use Rattle.play.specs.Fits.{effectFits, replyFits}
 use Rattle.play.proofs.Shape.{accepted-shape}
-use Rattle.play.proofs.Decided.{Shaped, DeedFits}
+use Rattle.play.proofs.Deeds.{Shaped, DeedFits}
 use Rattle.play.proofs.Turns.{TurnFits, marked-fits, decided-fits}
 
 pub refusal-most : (c : Card) (memory : ℕ) (locks : List ℕ) (room : ℕ) → refusal c memory locks room ≤ 4

@@ -23,7 +23,8 @@ use Rattle.card.specs.Mark.{marked, released, moved}
 use Rattle.card.specs.Frame.{decided, leaving}
 use Rattle.card.specs.Request.{requested, silent}
 use Rattle.play.specs.Fits.{effectFits, replyFits}
-use Rattle.play.proofs.Decided.{Shaped, DeedFits, by-test, cleared-shape, sequence-shape, holding-shape, silent-fits, requested-fits}
+use Rattle.play.proofs.Deeds.{Shaped, DeedFits, by-test, cleared-shape, sequence-shape, holding-shape, silent-fits}
+use Rattle.play.proofs.Decided.{requested-fits}
 
 pub record TurnFits (card : Card) (t : Turn) : Type 0 where
   pub shape : Shaped card (t .card)

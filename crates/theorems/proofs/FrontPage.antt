@@ -37,7 +37,7 @@ use Rattle.card.proofs.Unique.{is-accepted-unique, power-off-unique, hear-mark-
 use Rattle.card.proofs.Examples.{Cards, cards}
 use Rattle.play.specs.declared.Served.{Served}
 use Rattle.play.specs.Events.{Outcome, Leaves}
-use Rattle.play.proofs.Decided.{DeedFits}
+use Rattle.play.proofs.Deeds.{DeedFits}
 use Rattle.play.proofs.Turns.{decided-fits}
 use Rattle.play.proofs.Unique.{leaves-unique}
 use Rattle.play.proofs.Examples.{Information, information-shown}
