@@ -1,7 +1,8 @@
 /*
  * The form of the library in plain C: shifts and masks, no table, one bit of
  * the check at a time, and a decoder that looks at the whole track before it
- * writes.
+ * writes. It looks for the pause of a 1 of 256 unit byte by byte, where the
+ * library passes eight bytes 00 at a time.
  */
 #include "plain.h"
 
