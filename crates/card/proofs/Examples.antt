@@ -10,11 +10,12 @@ use lib.Pow.{mod-mod-pow, field}
 use Rattle.frames.specs.declared.Flags.{Flags}
 use Rattle.frames.specs.Flags.{flagsOf}
 use Rattle.frames.specs.Field.{fieldOf, fieldAt}
+use Rattle.slots.specs.Fits.{maskBytes, fitsMask, fitsSlot}
 use Rattle.card.specs.declared.Card.{Card}
 use Rattle.card.specs.declared.Deed.{Deed}
 use Rattle.card.specs.declared.Effect.the-variants.{Leave}
 use Rattle.card.specs.declared.Reply.the-variants.{Blocks}
-use Rattle.card.specs.Inventory.{lengthPlace, maskBytes, maskLimit, maskOf, fitsMask, fitsSlot, isInventory, inventoried, still}
+use Rattle.card.specs.Inventory.{lengthPlace, maskLimit, maskOf, isInventory, inventoried, still}
 use Rattle.card.specs.Request.{deed, fault, reads}
 
 -- a request with sixteen slots and no AFI whose mask length is 0C, with two mask bytes and any check

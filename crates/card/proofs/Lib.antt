@@ -1,4 +1,3 @@
-pub mod Bits
 pub mod Places
 pub mod Rules
 pub mod Unique

@@ -3,7 +3,8 @@ use mathlib.Core.Bool.{Bool, true, false, cond}
 use Prim.Native.Nat.{ℕ, _≤_, _<_}
 use native.Mathlib.Omega.{arith}
 use Rattle.frames.specs.declared.Flags.{Flags}
-use Rattle.card.specs.Inventory.{lengthPlace, maskBytes}
+use Rattle.slots.specs.Fits.{maskBytes}
+use Rattle.card.specs.Inventory.{lengthPlace}
 
 pub length-place-most : (f : Flags) → lengthPlace f ≤ 3
 unfolding lengthPlace

@@ -1,11 +1,12 @@
 -- 01, The card, step 3: "b3=1".
-use Prim.Native.Nat.{ℕ, _+_, _/_, _%_, _^_}
+use Prim.Native.Nat.{ℕ, _+_, _%_, _^_}
 use mathlib.Core.Bool.{Bool, true, false, cond, not, _&&_, _||_}
 use mathlib.Core.List.{List}
 use lib.Dec.{leb, eqb}
 use lib.ListN.{length, getD}
 use Rattle.frames.specs.declared.Flags.{Flags}
 use Rattle.frames.specs.Field.{fieldAt}
+use Rattle.slots.specs.Fits.{maskBytes, fitsMask, fitsSlot}
 use Rattle.card.specs.declared.Card.{Card}
 use Rattle.card.specs.declared.Turn.{Turn}
 use Rattle.card.specs.declared.Reply.{Reply}
@@ -20,12 +21,9 @@ turn c reply = record { card = c; reply = reply }
 abbrev pub still : Card → Turn
 still c = turn c Silence
 
--- "Body: AFI if present, mask length, then the mask in as few bytes as hold it.": the place of the mask length, and the mask's bytes
+-- "Body: AFI if present, mask length, then the mask in as few bytes as hold it.": the place of the mask length
 unfoldable pub lengthPlace : Flags → ℕ
 lengthPlace f = cond (f .b5) 3 2
-
-unfoldable pub maskBytes : ℕ → ℕ
-maskBytes n = (n + 7) / 8
 
 -- "mask length over 60 (sixteen slots) or 64 (one)"
 unfoldable pub maskLimit : Flags → ℕ
@@ -45,14 +43,6 @@ fitsFamily asked own = eqb asked 0x00 || eqb asked own
 
 unfoldable pub takesPart : Card → Flags → List ℕ → Bool
 takesPart c f frame = cond (f .b5) (fitsFamily (getD frame 2 0) (c .afi)) true
-
--- "With one slot only the mask counts."
-unfoldable pub fitsMask : ℕ → ℕ → ℕ → Bool
-fitsMask uid n mask = eqb (uid % 2 ^ n) mask
-
--- "the card answers in slot s when its low (length + 4) UID bits are s above the mask": the mask, and the digit above it
-unfoldable pub fitsSlot : ℕ → ℕ → ℕ → ℕ → Bool
-fitsSlot uid n mask slot = fitsMask uid n mask && eqb (uid / 2 ^ n % 16) slot
 
 unfoldable pub present : Bool → Reply
 present true = Present

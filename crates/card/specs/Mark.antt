@@ -3,6 +3,7 @@
 use Prim.Native.Nat.{ℕ, _+_}
 use mathlib.Core.Bool.{cond}
 use lib.Dec.{ltb}
+use Rattle.slots.specs.Fits.{fitsSlot}
 use Rattle.card.specs.declared.Card.{Card}
 use Rattle.card.specs.declared.Turn.{Turn}
 use Rattle.card.specs.declared.Sequence.{Sequence}
@@ -11,7 +12,7 @@ use Rattle.card.specs.declared.Held.{Held}
 use Rattle.card.specs.declared.Held.the-variants.{Free, Success, Code}
 use Rattle.card.specs.declared.Reply.the-variants.{Error, Done}
 use Rattle.card.specs.Record.{inSequence, holding}
-use Rattle.card.specs.Inventory.{turn, still, fitsSlot, present}
+use Rattle.card.specs.Inventory.{turn, still, present}
 
 -- the next slot of a running sequence
 unfoldable pub moved : Card → Sequence → Turn

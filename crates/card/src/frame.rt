@@ -7,11 +7,11 @@ use crate::Deed;
 use crate::Effect;
 use crate::Reply;
 use crate::Turn;
-use crate::inventory::byte_at;
 use crate::inventory::inventory;
 use crate::request::request;
 use crate::request::silence;
 use frames::Flags;
+use frames::byte_at;
 
 fn either(a: bool, b: bool) -> bool
     ensures { λ r. ⌜ r ≡ (a || b) ⌝ }

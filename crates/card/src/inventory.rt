@@ -1,53 +1,22 @@
 // An inventory request: who takes part, and who answers at once.
 ghost use mathlib.Core.Path.{_≡_};
-ghost use Prim.Native.Nat.{_+_, _%_, _/_, _^_};
-ghost use lib.ListN.{getD};
-ghost use lib.Dec.{eqb};
-ghost use Rattle.card.specs.Inventory.{lengthPlace, maskBytes, maskLimit, maskOf, totalLength, fitsFamily, takesPart, fitsMask, fitsSlot, present, joins, isInventory, inventoried};
+ghost use Rattle.card.specs.Inventory.{lengthPlace, maskLimit, maskOf, totalLength, fitsFamily, takesPart, present, joins, isInventory, inventoried};
 use crate::Card;
 use crate::Reply;
 use crate::Sequence;
 use crate::Turn;
 use crate::record::is_quiet;
 use frames::Flags;
-
-// The byte at a place of a frame, or 0 past its end.
-pub(crate) fn byte_at(frame: &[u8], at: usize) -> u8
-    ensures { λ r. ⌜ r ≡ getD (now (frame .entry)) at 0 ⌝ }
-{
-    if at < frame.len() { frame[at] } else { 0 }
-}
-
-// The low n bits of a number.
-fn low_bits(v: u64, n: u8) -> u64
-    ensures { λ r. ⌜ r ≡ v % 2 ^ n ⌝ }
-{
-    if 64 <= n {
-        return v;
-    }
-    v % (1u64 << n)
-}
-
-// A number without its low n bits.
-fn high_bits(v: u64, n: u8) -> u64
-    ensures { λ r. ⌜ r ≡ v / 2 ^ n ⌝ }
-{
-    if 64 <= n {
-        return 0;
-    }
-    v >> n
-}
+use frames::byte_at;
+use slots::fits_mask;
+use slots::fits_slot;
+use slots::low_bits;
+use slots::mask_bytes;
 
 fn length_place(f: Flags) -> usize
     ensures { λ r. ⌜ r ≡ lengthPlace f ⌝ }
 {
     if f.b5 { 3 } else { 2 }
-}
-
-fn mask_bytes(n: u8) -> usize
-    ensures { λ r. ⌜ r ≡ maskBytes n ⌝ }
-{
-    ((n as usize) + 7) / 8
 }
 
 fn mask_limit(f: Flags) -> u8
@@ -83,22 +52,6 @@ fn takes_part(card: Card, f: Flags, frame: &[u8]) -> bool
         fits_family(byte_at(frame, 2), card.afi)
     } else {
         true
-    }
-}
-
-fn fits_mask(uid: u64, n: u8, mask: u64) -> bool
-    ensures { λ r. ⌜ r ≡ fitsMask uid n mask ⌝ }
-{
-    low_bits(uid, n) == mask
-}
-
-pub(crate) fn fits_slot(uid: u64, n: u8, mask: u64, slot: u8) -> bool
-    ensures { λ r. ⌜ r ≡ fitsSlot uid n mask slot ⌝ }
-{
-    if fits_mask(uid, n, mask) {
-        high_bits(uid, n) % 16 == slot as u64
-    } else {
-        false
     }
 }
 

@@ -6,8 +6,8 @@ use crate::Held;
 use crate::Reply;
 use crate::Sequence;
 use crate::Turn;
-use crate::inventory::fits_slot;
 use crate::inventory::present_if;
+use slots::fits_slot;
 
 fn running_on(card: Card, slot: u8, n: u8, mask: u64) -> Turn
     ensures { λ r. ⌜ r ≡ moved card (Sequence.Running slot n mask) ⌝ }

@@ -1,12 +1,11 @@
 // The record: which ones are accepted, and each way in which it changes.
 ghost use mathlib.Core.Path.{_≡_};
-ghost use Prim.Native.Nat.{_^_};
-ghost use lib.Dec.{ltb};
 ghost use Rattle.card.specs.Record.{shapeFits, sequenceFits, heldFits, isAccepted, remade, cleared, inMode, inSequence, holding, withAfi, withDsfid, poweredOff, isQuiet, isSelected};
 use crate::Card;
 use crate::Held;
 use crate::Mode;
 use crate::Sequence;
+use slots::is_below;
 
 fn shape_fits(blocks: u32, size: u32) -> bool
     ensures { λ r. ⌜ r ≡ shapeFits blocks size ⌝ }
@@ -21,16 +20,6 @@ fn shape_fits(blocks: u32, size: u32) -> bool
         return false;
     }
     size <= 32
-}
-
-// Whether no bit of a mask stands at its length or above. A length of 64 or more has room for all.
-pub(crate) fn is_below(mask: u64, n: u8) -> bool
-    ensures { λ r. ⌜ r ≡ ltb mask (2 ^ n) ⌝ }
-{
-    if 64 <= n {
-        return true;
-    }
-    mask < 1u64 << n
 }
 
 fn running_fits(slot: u8, n: u8, mask: u64) -> bool

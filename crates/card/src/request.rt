@@ -10,10 +10,10 @@ use crate::Effect;
 use crate::Held;
 use crate::Mode;
 use crate::Reply;
-use crate::inventory::byte_at;
 use crate::record::is_quiet;
 use crate::record::is_selected;
 use frames::Flags;
+use frames::byte_at;
 
 pub(crate) fn silence(card: Card) -> Deed
     ensures { λ r. ⌜ r ≡ silent card ⌝ }

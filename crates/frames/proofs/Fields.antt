@@ -14,7 +14,7 @@ use lib.Dec.{ltb}
 use lib.Seq.{getD-take, getD-drop}
 use Rattle.lent.specs.Lent.{placed}
 use Rattle.lent.proofs.Over.{set-placed}
-use Rattle.frames.specs.Field.{fieldOf, fieldBytes, fieldAt, byteAt, fourAt}
+use Rattle.frames.specs.Field.{fieldOf, fieldBytes, fieldAt, fieldByte, fourAt}
 
 -- a value without its i lowest bytes
 unfoldable pub upper : ℕ → ℕ → ℕ
@@ -72,8 +72,8 @@ field-sum zero (b ∷ bs) h = absurd (omega arith)
 field-sum (suc n) (b ∷ bs) h = ap (λ (v : ℕ). b + 256 * v) (field-sum n bs (omega arith))
 
 -- the byte at a place of a field
-byte-of-field : (frame : List ℕ) (at count k : ℕ) → k < 8 → getD (take (min 8 count) (drop at frame)) k 0 ≡ byteAt frame at count k
-unfolding byteAt
+byte-of-field : (frame : List ℕ) (at count k : ℕ) → k < 8 → getD (take (min 8 count) (drop at frame)) k 0 ≡ fieldByte frame at count k
+unfolding fieldByte
 byte-of-field frame at count k h = go (decLt k count)
   where
     go : Dec (k < count) → getD (take (min 8 count) (drop at frame)) k 0 ≡ cond (ltb k count) (getD frame (at + k) 0) 0
@@ -88,7 +88,7 @@ unfolding fieldAt fourAt sum
 field-of-fours frame at count =
     let part : List ℕ = take (min 8 count) (drop at frame) in
     field-sum 8 part (rw length-take (omega arith))
-    ∙ sum-same 8 (λ k. getD part k 0) (byteAt frame at count) (λ k h. byte-of-field frame at count k h)
+    ∙ sum-same 8 (λ k. getD part k 0) (fieldByte frame at count) (λ k h. byte-of-field frame at count k h)
     ∙ omega arith
 
 -- ---- both round trips

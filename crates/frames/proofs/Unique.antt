@@ -4,6 +4,7 @@ use mathlib.Core.Bool.{Bool}
 use mathlib.Core.List.{List}
 use Prim.Native.Nat.{ℕ}
 use lib.IntN.{ℤ}
+use lib.ListN.{getD}
 use Rattle.frames.specs.declared.Flags.{Flags}
 use Rattle.frames.specs.Flags.{flagsOf}
 use Rattle.frames.specs.Field.{fieldAt, PutsField}
@@ -11,6 +12,9 @@ use Rattle.frames.specs.Frame.{Seals, isSound}
 
 pub flags-unique : (b : ℕ) (r s : Flags) → r ≡ flagsOf b → s ≡ flagsOf b → r ≡ s
 flags-unique b r s p q = p ∙ sym q
+
+pub byte-at-unique : (frame : List ℕ) (at r s : ℕ) → r ≡ getD frame at 0 → s ≡ getD frame at 0 → r ≡ s
+byte-at-unique frame at r s p q = p ∙ sym q
 
 pub field-unique : (frame : List ℕ) (at count r s : ℕ) → r ≡ fieldAt frame at count → s ≡ fieldAt frame at count → r ≡ s
 field-unique frame at count r s p q = p ∙ sym q

@@ -23,13 +23,13 @@ unfoldable pub fieldAt : List ℕ → ℕ → ℕ → ℕ
 fieldAt frame at count = fieldOf (take (min 8 count) (drop at frame))
 
 -- its byte i, or 0 past its end
-unfoldable pub byteAt : List ℕ → ℕ → ℕ → ℕ → ℕ
-byteAt frame at count i = cond (ltb i count) (getD frame (at + i) 0) 0
+unfoldable pub fieldByte : List ℕ → ℕ → ℕ → ℕ → ℕ
+fieldByte frame at count i = cond (ltb i count) (getD frame (at + i) 0) 0
 
 -- four of its bytes from byte i on
 unfoldable pub fourAt : List ℕ → ℕ → ℕ → ℕ → ℕ
 fourAt frame at count i =
-    byteAt frame at count i + 256 * byteAt frame at count (i + 1) + 65536 * byteAt frame at count (i + 2) + 16777216 * byteAt frame at count (i + 3)
+    fieldByte frame at count i + 256 * fieldByte frame at count (i + 1) + 65536 * fieldByte frame at count (i + 2) + 16777216 * fieldByte frame at count (i + 3)
 
 -- putting a field: the place after it, or number 8 (room short)
 unfoldable pub putAnswer : List ℕ → ℕ → ℕ → ℤ

@@ -2,9 +2,9 @@
 ghost use mathlib.Core.Path.{_≡_};
 ghost use Rattle.frames.specs.Flags.{flagsOf};
 ghost use Prim.Native.Nat.{_+_, _*_, _<_, _≤_};
-ghost use lib.ListN.{length};
+ghost use lib.ListN.{length, getD};
 ghost use Rattle.lent.specs.Lent.{placed};
-ghost use Rattle.frames.specs.Field.{fieldAt, byteAt, fourAt, fieldBytes, PutsField};
+ghost use Rattle.frames.specs.Field.{fieldAt, fieldByte, fourAt, fieldBytes, PutsField};
 ghost use Rattle.frames.specs.Frame.{Seals, isSound};
 
 // The shortest and the longest frame, in bytes.
@@ -41,9 +41,16 @@ impl Flags {
     }
 }
 
+// The byte at a place, or 0 past the end.
+pub fn byte_at(frame: &[u8], at: usize) -> u8
+    ensures { λ r. ⌜ r ≡ getD (now (frame .entry)) at 0 ⌝ }
+{
+    if at < frame.len() { frame[at] } else { 0 }
+}
+
 // The byte at place i of a field, or 0 where the field or the frame has ended.
-fn byte_at(frame: &[u8], at: usize, count: usize, i: usize) -> u8
-    ensures { λ r. ⌜ r ≡ byteAt (now (frame .entry)) at count i ⌝ }
+fn field_byte(frame: &[u8], at: usize, count: usize, i: usize) -> u8
+    ensures { λ r. ⌜ r ≡ fieldByte (now (frame .entry)) at count i ⌝ }
 {
     let n = frame.len();
     if count <= i {
@@ -70,10 +77,10 @@ fn four_at(frame: &[u8], at: usize, count: usize, i: usize) -> u32
     requires { ⌜ i < 8 ⌝ }
     ensures { λ r. ⌜ r ≡ fourAt (now (frame .entry)) at count i ⌝ }
 {
-    let b0 = byte_at(frame, at, count, i);
-    let b1 = byte_at(frame, at, count, i + 1);
-    let b2 = byte_at(frame, at, count, i + 2);
-    let b3 = byte_at(frame, at, count, i + 3);
+    let b0 = field_byte(frame, at, count, i);
+    let b1 = field_byte(frame, at, count, i + 1);
+    let b2 = field_byte(frame, at, count, i + 2);
+    let b3 = field_byte(frame, at, count, i + 3);
     join(b0, b1, b2, b3)
 }
 

@@ -18,7 +18,7 @@ use Rattle.card.specs.declared.Reply.{Reply}
 use Rattle.card.specs.declared.Reply.the-variants.{Silence, Error, Done, Present}
 use Rattle.card.specs.declared.Turn.{Turn}
 use Rattle.card.specs.Record.{cleared, inSequence, holding}
-use Rattle.card.specs.Inventory.{turn, still, present, joins, inventoried, isInventory, takesPart, lengthPlace, maskOf, fitsMask, fitsSlot}
+use Rattle.card.specs.Inventory.{turn, still, present, joins, inventoried, isInventory, takesPart, lengthPlace}
 use Rattle.card.specs.Mark.{marked, released, moved}
 use Rattle.card.specs.Frame.{decided, leaving}
 use Rattle.card.specs.Request.{requested, silent}

@@ -4,7 +4,8 @@
 use mathlib.Core.Path.{_≡_}
 use mathlib.Core.Bool.{Bool, true, false}
 use mathlib.Core.List.{List}
-use Prim.Native.Nat.{ℕ, _+_, _-_, _≤_, _<_}
+use Prim.Native.Nat.{ℕ, _+_, _-_, _/_, _%_, _^_, _≤_, _<_}
+use lib.Dec.{ltb}
 use lib.IntN.{ℤ}
 use lib.ListN.{length, take, getD}
 use Rattle.lent.specs.Lent.{over}
@@ -17,7 +18,9 @@ use Rattle.frames.specs.Flags.{flagsOf}
 use Rattle.frames.specs.Field.{fieldAt, PutsField}
 use Rattle.frames.specs.Frame.{shortest, longest, isSound, Seals}
 use Rattle.frames.proofs.Sound.{Sound, sound-of-sealed, sealed-of-sound}
-use Rattle.frames.proofs.Unique.{flags-unique, field-unique, put-field-unique, seal-unique, is-sound-unique}
+use Rattle.frames.proofs.Unique.{flags-unique, byte-at-unique, field-unique, put-field-unique, seal-unique, is-sound-unique}
+use Rattle.slots.specs.Fits.{maskBytes, fitsMask, fitsSlot}
+use Rattle.slots.proofs.Unique.{low-bits-unique, high-bits-unique, is-below-unique, mask-bytes-unique, fits-mask-unique, fits-slot-unique}
 use Rattle.tracks.specs.Track.{trackOf, slotMark}
 use Rattle.tracks.specs.Coder.{Codes}
 use Rattle.tracks.specs.Decoder.{told, Decodes}
@@ -99,6 +102,9 @@ is-sealed-once = is-sealed-unique
 flags-once : (b : ℕ) (r s : Flags) → r ≡ flagsOf b → s ≡ flagsOf b → r ≡ s
 flags-once = flags-unique
 
+byte-at-once : (frame : List ℕ) (at r s : ℕ) → r ≡ getD frame at 0 → s ≡ getD frame at 0 → r ≡ s
+byte-at-once = byte-at-unique
+
 field-once : (frame : List ℕ) (at count r s : ℕ) → r ≡ fieldAt frame at count → s ≡ fieldAt frame at count → r ≡ s
 field-once = field-unique
 
@@ -112,6 +118,24 @@ seal-once = seal-unique
 
 is-sound-once : (frame : List ℕ) (r s : Bool) → r ≡ isSound frame → s ≡ isSound frame → r ≡ s
 is-sound-once = is-sound-unique
+
+low-bits-once : (v n r s : ℕ) → r ≡ v % 2 ^ n → s ≡ v % 2 ^ n → r ≡ s
+low-bits-once = low-bits-unique
+
+high-bits-once : (v n r s : ℕ) → r ≡ v / 2 ^ n → s ≡ v / 2 ^ n → r ≡ s
+high-bits-once = high-bits-unique
+
+is-below-once : (mask n : ℕ) (r s : Bool) → r ≡ ltb mask (2 ^ n) → s ≡ ltb mask (2 ^ n) → r ≡ s
+is-below-once = is-below-unique
+
+mask-bytes-once : (n r s : ℕ) → r ≡ maskBytes n → s ≡ maskBytes n → r ≡ s
+mask-bytes-once = mask-bytes-unique
+
+fits-mask-once : (uid n mask : ℕ) (r s : Bool) → r ≡ fitsMask uid n mask → s ≡ fitsMask uid n mask → r ≡ s
+fits-mask-once = fits-mask-unique
+
+fits-slot-once : (uid n mask slot : ℕ) (r s : Bool) → r ≡ fitsSlot uid n mask slot → s ≡ fitsSlot uid n mask slot → r ≡ s
+fits-slot-once = fits-slot-unique
 
 code-once : {frame : List ℕ} {coding : ℕ} {found : List ℕ} {r s : ℤ} {left right : List ℕ}
     → Codes frame coding found r left → Codes frame coding found s right → (r ≡ s) × (left ≡ right)

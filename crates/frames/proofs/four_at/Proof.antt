@@ -1,29 +1,29 @@
--- `frames::four_at` meets its contract: four bytes, each by `byte_at`. Assumes nothing.
+-- `frames::four_at` meets its contract: four bytes, each by `field_byte`. Assumes nothing.
 use borrow.Author.Needs.{needs}
 use Rattle.frames.specs.Field.{fourAt}
 use Rattle.frames.proofs.four_at.Statement.{statement}
 use Rattle.frames.proofs.four_at.Tie as tie
 
-byte-at-requires : tie.Need-byte-at-requires
-byte-at-requires c κs = search needs
+field-byte-requires : tie.Need-field-byte-requires
+field-byte-requires c κs = search needs
 
-add-byte-at : tie.Need-add-byte-at
-add-byte-at c = search needs
+add-field-byte : tie.Need-add-field-byte
+add-field-byte c = search needs
 
-byte-at-requires-2 : tie.Need-byte-at-requires-2
-byte-at-requires-2 c κs = search needs
+field-byte-requires-2 : tie.Need-field-byte-requires-2
+field-byte-requires-2 c κs = search needs
 
-add-byte-at-2 : tie.Need-add-byte-at-2
-add-byte-at-2 c = search needs
+add-field-byte-2 : tie.Need-add-field-byte-2
+add-field-byte-2 c = search needs
 
-byte-at-requires-3 : tie.Need-byte-at-requires-3
-byte-at-requires-3 c κs = search needs
+field-byte-requires-3 : tie.Need-field-byte-requires-3
+field-byte-requires-3 c κs = search needs
 
-add-byte-at-3 : tie.Need-add-byte-at-3
-add-byte-at-3 c = search needs
+add-field-byte-3 : tie.Need-add-field-byte-3
+add-field-byte-3 c = search needs
 
-byte-at-requires-4 : tie.Need-byte-at-requires-4
-byte-at-requires-4 c κs = search needs
+field-byte-requires-4 : tie.Need-field-byte-requires-4
+field-byte-requires-4 c κs = search needs
 
 join-requires : tie.Need-join-requires
 join-requires c κs = search needs
@@ -36,12 +36,12 @@ pub four-at-spec : {M : Type 1} → statement M
 four-at-spec =
     tie.close
     (tie.spec
-    byte-at-requires
-    add-byte-at
-    byte-at-requires-2
-    add-byte-at-2
-    byte-at-requires-3
-    add-byte-at-3
-    byte-at-requires-4
+    field-byte-requires
+    add-field-byte
+    field-byte-requires-2
+    add-field-byte-2
+    field-byte-requires-3
+    add-field-byte-3
+    field-byte-requires-4
     join-requires
     returns)

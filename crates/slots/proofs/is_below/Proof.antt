@@ -1,11 +1,11 @@
--- `card::record::is_below` meets its contract: a shift makes the power of two, and from 64 on every number is below. Assumes nothing.
+-- `slots::is_below` meets its contract: a shift makes the power of two, and from 64 on every number is below. Assumes nothing.
 use borrow.Author.Needs.{needs}
 use borrow.Author.Tests.{lt-ltb}
 use mathlib.Core.Path.{sym}
 use native.Mathlib.Omega.{arith}
-use Rattle.card.proofs.Bits.{below-power, bit-at}
-use Rattle.card.proofs.record.is_below.Statement.{statement}
-use Rattle.card.proofs.record.is_below.Tie as tie
+use Rattle.slots.proofs.Bits.{below-power, bit-at}
+use Rattle.slots.proofs.is_below.Statement.{statement}
+use Rattle.slots.proofs.is_below.Tie as tie
 
 returns : tie.Need-returns
 returns c = sym (lt-ltb _ _ (below-power _ _ (omega arith) (c .if1 .taken)))

@@ -1,8 +1,8 @@
--- `card::inventory::fits_slot` meets its contract: the mask, then the digit above it. Assumes nothing.
+-- `slots::fits_slot` meets its contract: the mask, then the digit above it. Assumes nothing.
 use borrow.Author.Needs.{needs}
-use Rattle.card.specs.Inventory.{fitsSlot}
-use Rattle.card.proofs.inventory.fits_slot.Statement.{statement}
-use Rattle.card.proofs.inventory.fits_slot.Tie as tie
+use Rattle.slots.specs.Fits.{fitsSlot}
+use Rattle.slots.proofs.fits_slot.Statement.{statement}
+use Rattle.slots.proofs.fits_slot.Tie as tie
 
 fits-mask-requires : tie.Need-fits-mask-requires
 fits-mask-requires c κs = search needs

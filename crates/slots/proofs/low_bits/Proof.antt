@@ -1,12 +1,12 @@
--- `card::inventory::low_bits` meets its contract: a shift makes the power of two, and from 64 on nothing is cut. Assumes nothing.
+-- `slots::low_bits` meets its contract: a shift makes the power of two, and from 64 on nothing is cut. Assumes nothing.
 use borrow.Author.Needs.{needs}
 use mathlib.Core.Path.{sym}
 use native.Mathlib.Omega.{arith}
 use native.Mathlib.Nat.{mod-eq-of-lt}
 use lib.Pow.{pow-pos}
-use Rattle.card.proofs.Bits.{below-power, bit-at}
-use Rattle.card.proofs.inventory.low_bits.Statement.{statement}
-use Rattle.card.proofs.inventory.low_bits.Tie as tie
+use Rattle.slots.proofs.Bits.{below-power, bit-at}
+use Rattle.slots.proofs.low_bits.Statement.{statement}
+use Rattle.slots.proofs.low_bits.Tie as tie
 
 returns : tie.Need-returns
 returns c = sym (mod-eq-of-lt (below-power _ _ (omega arith) (c .if1 .taken)))

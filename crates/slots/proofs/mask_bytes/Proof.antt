@@ -1,9 +1,9 @@
--- `card::inventory::mask_bytes` meets its contract: the definition itself. Assumes nothing.
+-- `slots::mask_bytes` meets its contract: the definition itself. Assumes nothing.
 use borrow.Author.Needs.{needs}
 use mathlib.Core.Path.{refl}
-use Rattle.card.specs.Inventory.{maskBytes}
-use Rattle.card.proofs.inventory.mask_bytes.Statement.{statement}
-use Rattle.card.proofs.inventory.mask_bytes.Tie as tie
+use Rattle.slots.specs.Fits.{maskBytes}
+use Rattle.slots.proofs.mask_bytes.Statement.{statement}
+use Rattle.slots.proofs.mask_bytes.Tie as tie
 
 add-result : tie.Need-add-result
 add-result c = search needs

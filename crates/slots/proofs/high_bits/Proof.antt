@@ -1,11 +1,11 @@
--- `card::inventory::high_bits` meets its contract: a shift divides, and from 64 on nothing is left. Assumes nothing.
+-- `slots::high_bits` meets its contract: a shift divides, and from 64 on nothing is left. Assumes nothing.
 use borrow.Author.Needs.{needs}
 use mathlib.Core.Path.{sym}
 use native.Mathlib.Omega.{arith}
 use native.Mathlib.Nat.{div-eq-of-lt}
-use Rattle.card.proofs.Bits.{below-power}
-use Rattle.card.proofs.inventory.high_bits.Statement.{statement}
-use Rattle.card.proofs.inventory.high_bits.Tie as tie
+use Rattle.slots.proofs.Bits.{below-power}
+use Rattle.slots.proofs.high_bits.Statement.{statement}
+use Rattle.slots.proofs.high_bits.Tie as tie
 
 returns : tie.Need-returns
 returns c = sym (div-eq-of-lt (below-power _ _ (omega arith) (c .if1 .taken)))

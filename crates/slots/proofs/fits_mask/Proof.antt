@@ -1,8 +1,8 @@
--- `card::inventory::fits_mask` meets its contract: the low bits against the mask. Assumes nothing.
+-- `slots::fits_mask` meets its contract: the low bits against the mask. Assumes nothing.
 use borrow.Author.Needs.{needs}
-use Rattle.card.specs.Inventory.{fitsMask}
-use Rattle.card.proofs.inventory.fits_mask.Statement.{statement}
-use Rattle.card.proofs.inventory.fits_mask.Tie as tie
+use Rattle.slots.specs.Fits.{fitsMask}
+use Rattle.slots.proofs.fits_mask.Statement.{statement}
+use Rattle.slots.proofs.fits_mask.Tie as tie
 
 low-bits-requires : tie.Need-low-bits-requires
 low-bits-requires c κs = search needs
