@@ -12,6 +12,9 @@ pub const SHORTEST: usize = 4;
 
 pub const LONGEST: usize = 64;
 
+// Number 8, room short.
+const ROOM_SHORT: i64 = -8;
+
 // The eight flags of a frame's first byte, b1 the lowest.
 pub struct Flags {
     pub b1: bool,
@@ -113,10 +116,10 @@ pub fn put_field(buffer: &mut [u8], at: usize, count: usize, value: u64) -> i64
 {
     let room = buffer.len();
     if room < count {
-        return -8;
+        return ROOM_SHORT;
     }
     if room - count < at {
-        return -8;
+        return ROOM_SHORT;
     }
     fill(buffer, at, count, value);
     (at + count) as i64
@@ -128,10 +131,10 @@ pub fn seal(buffer: &mut [u8], n: usize) -> i64
 {
     let room = buffer.len();
     if room < 2 {
-        return -8;
+        return ROOM_SHORT;
     }
     if room - 2 < n {
-        return -8;
+        return ROOM_SHORT;
     }
     let x = crc::check(&buffer[..n]);
     fill(buffer, n, 2, x as u64);

@@ -1,6 +1,6 @@
 -- `slots::high_bits` meets its contract: a shift divides, and from 64 on nothing is left. Assumes nothing.
 use borrow.Author.Needs.{needs}
-use mathlib.Core.Path.{sym}
+use mathlib.Core.Path.{refl, sym}
 use native.Mathlib.Omega.{arith}
 use native.Mathlib.Nat.{div-eq-of-lt}
 use Rattle.slots.proofs.Bits.{below-power}
@@ -14,7 +14,7 @@ shr-result : tie.Need-shr-result
 shr-result c = search needs
 
 returns-2 : tie.Need-returns-2
-returns-2 c = search needs
+returns-2 c = refl
 
 pub high-bits-spec : {M : Type 1} → statement M
 high-bits-spec = tie.close (tie.spec returns shr-result returns-2)

@@ -1,10 +1,10 @@
 -- `slots::low_bits` meets its contract: a shift makes the power of two, and from 64 on nothing is cut. Assumes nothing.
 use borrow.Author.Needs.{needs}
-use mathlib.Core.Path.{sym}
+use mathlib.Core.Path.{sym, ap}
+use Prim.Native.Nat.{ℕ, _%_}
 use native.Mathlib.Omega.{arith}
 use native.Mathlib.Nat.{mod-eq-of-lt}
-use lib.Pow.{pow-pos}
-use Rattle.slots.proofs.Bits.{below-power, bit-at}
+use Rattle.slots.proofs.Bits.{below-power, bit-at, bit-positive}
 use Rattle.slots.proofs.low_bits.Statement.{statement}
 use Rattle.slots.proofs.low_bits.Tie as tie
 
@@ -15,10 +15,10 @@ shl-result : tie.Need-shl-result
 shl-result c = search needs
 
 rem-result : tie.Need-rem-result
-rem-result c = rw (bit-at _ (c .if1 .left)) (pow-pos _)
+rem-result c = bit-positive _ (c .if1 .left)
 
 returns-2 : tie.Need-returns-2
-returns-2 c = rw (bit-at _ (c .if1 .left))
+returns-2 c = ap (λ (power : ℕ). c .before .args .v % power) (bit-at _ (c .if1 .left))
 
 pub low-bits-spec : {M : Type 1} → statement M
 low-bits-spec = tie.close (tie.spec returns shl-result rem-result returns-2)
