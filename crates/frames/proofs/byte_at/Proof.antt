@@ -1,6 +1,6 @@
 -- `frames::byte_at` meets its contract: past the end the byte is 0. Assumes nothing.
 use borrow.Author.Needs.{needs}
-use mathlib.Core.Path.{sym}
+use mathlib.Core.Path.{refl, sym}
 use lib.ListN.{List·getD-eq-default}
 use Rattle.frames.proofs.byte_at.Statement.{statement}
 use Rattle.frames.proofs.byte_at.Tie as tie
@@ -9,7 +9,7 @@ shared-slice-read-result : tie.Need-shared-slice-read-result
 shared-slice-read-result c = search needs
 
 returns : tie.Need-returns
-returns c = search needs
+returns c = refl
 
 returns-2 : tie.Need-returns-2
 returns-2 c = sym (List·getD-eq-default (c .before .args .frame .now) 0 (c .if1 .left))

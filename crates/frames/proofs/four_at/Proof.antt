@@ -30,7 +30,13 @@ join-requires c κs = search needs
 
 returns : tie.Need-returns
 unfolding fourAt
-returns c = cc
+returns c =
+    let join = c .join in
+    let first = c .before .before .before .before .field-byte in
+    let second = c .before .before .before .field-byte2 in
+    let third = c .before .before .field-byte3 in
+    let fourth = c .before .field-byte4 in
+    rw (join .ensures, first .ensures, second .ensures, third .ensures, fourth .ensures)
 
 pub four-at-spec : {M : Type 1} → statement M
 four-at-spec =

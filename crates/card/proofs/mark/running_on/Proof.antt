@@ -27,11 +27,11 @@ returns c =
     let in-sequence = c .before .before .in-sequence in
     let present-if = c .present-if in
     let fits-slot = c .before .fits-slot in
-    rw (lt-ltb _ _ (first .taken), in-sequence .ensures, present-if .ensures, fits-slot .ensures)
+    rw (lt-ltb _ 15 (first .taken), in-sequence .ensures, present-if .ensures, fits-slot .ensures)
 
 returns-2 : tie.Need-returns-2
 unfolding moved
-returns-2 c = rw (le-ltb _ _ (c .before .if1 .left), c .in-sequence2 .ensures)
+returns-2 c = rw (le-ltb _ 15 (c .before .if1 .left), c .in-sequence2 .ensures)
 
 pub running-on-spec : {M : Type 1} → statement M
 running-on-spec =

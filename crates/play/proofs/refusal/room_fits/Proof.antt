@@ -16,7 +16,7 @@ cast-size c = search needs
 
 returns : tie.Need-returns
 unfolding roomFits
-returns c = rw (lt-leb _ _ (c .if1 .taken))
+returns c = rw (lt-leb 32 _ (c .if1 .taken))
 
 add-result : tie.Need-add-result
 add-result c = search needs
@@ -29,7 +29,7 @@ add-result-2 c = omega (arith, shape-of _ _ (c .before .before .before .pre))
 
 returns-2 : tie.Need-returns-2
 unfolding roomFits
-returns-2 c = rw (le-leb _ _ (c .if1 .left))
+returns-2 c = rw (le-leb 32 _ (c .if1 .left))
 
 pub room-fits-spec : {M : Type 1} → statement M
 room-fits-spec =
