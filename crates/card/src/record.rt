@@ -115,15 +115,17 @@ impl Card {
     pub(crate) fn cleared(self) -> Card
         ensures { λ r. ⌜ r ≡ cleared self ⌝ }
     {
-        let mode = self.mode;
+        let kept = self.mode;
+        let sequence = Sequence::Idle;
+        let held = Held::Free;
         self.remade(
             self.afi,
             self.dsfid,
             self.afi_locked,
             self.dsfid_locked,
-            mode,
-            Sequence::Idle,
-            Held::Free,
+            kept,
+            sequence,
+            held,
         )
     }
 

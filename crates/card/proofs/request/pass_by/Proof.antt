@@ -1,5 +1,8 @@
 -- `card::request::pass_by` meets its contract: by the one test. Assumes nothing.
 use borrow.Author.Needs.{needs}
+use mathlib.Core.Path.{_≡_}
+use mathlib.Core.Bool.{_&&_}
+use lib.Dec.{eqb}
 use Rattle.card.specs.Request.{passedBy}
 use Rattle.card.proofs.request.pass_by.Statement.{statement}
 use Rattle.card.proofs.request.pass_by.Tie as tie
@@ -27,7 +30,8 @@ returns c =
     let is-selected = c .before .before .before .before .is-selected in
     let both = c .before .before .before .both in
     let first = c .before .before .if1 in
-    rw (silence .ensures, in-mode .ensures, ← (is-selected .ensures), ← (both .ensures), first .taken)
+    let test : both .result ≡ (eqb (c .before .before .before .before .before .args .command) 0x25 && is-selected .result) = both .ensures in
+    rw (silence .ensures, in-mode .ensures, ← (is-selected .ensures), ← test, first .taken)
 
 returns-2 : tie.Need-returns-2
 unfolding passedBy
@@ -36,7 +40,8 @@ returns-2 c =
     let is-selected = c .before .before .before .is-selected in
     let both = c .before .before .both in
     let first = c .before .if1 in
-    rw (silence2 .ensures, ← (is-selected .ensures), ← (both .ensures), first .left)
+    let test : both .result ≡ (eqb (c .before .before .before .before .args .command) 0x25 && is-selected .result) = both .ensures in
+    rw (silence2 .ensures, ← (is-selected .ensures), ← test, first .left)
 
 pub pass-by-spec : {M : Type 1} → statement M
 pass-by-spec =

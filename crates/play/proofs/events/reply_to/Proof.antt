@@ -6,10 +6,12 @@ use lib.ListN.{length}
 use Rattle.play.proofs.EventWays.{replies-silence, replies-bytes, sealed-over}
 use Rattle.play.proofs.Room.{reply-room}
 use Rattle.play.specs.Answer.{replyBytes}
+use Rattle.play.specs.Fits.{replyFits}
 use Rattle.play.proofs.events.reply_to.Statement.{statement}
 use Rattle.play.proofs.events.reply_to.Tie as tie
 
 put-reply-requires : tie.Need-put-reply-requires
+unfolding replyFits
 put-reply-requires c κs = search needs
 
 same-length : tie.Need-same-length
