@@ -269,6 +269,19 @@ fn perform(card: Card, locks: &[u8], option: bool, frame: &[u8], at: usize, comm
     }
 }
 
+// Of two faults, a wrong body length and a refused Option, the first: its code, or 00 for none.
+fn first_fault(wrong: bool, refused: bool) -> u8
+    ensures { λ r. ⌜ r ≡ cond wrong 0x02 (cond refused 0x03 0x00) ⌝ }
+{
+    if wrong {
+        return 0x02;
+    }
+    if refused {
+        return 0x03;
+    }
+    0x00
+}
+
 // The faults that come before the table, in their order.
 fn judge(card: Card, locks: &[u8], f: Flags, frame: &[u8], at: usize, command: u8) -> Deed
     requires { ⌜ at ≤ 10 ⌝ }
@@ -277,10 +290,12 @@ fn judge(card: Card, locks: &[u8], f: Flags, frame: &[u8], at: usize, command: u
     if !is_listed(command) {
         return answer(card, Reply::Error(0x01));
     }
-    if body_length(frame, at) != body_asked(command, card.size) {
+    let wrong = body_length(frame, at) != body_asked(command, card.size);
+    let code = first_fault(wrong, both(f.b7, refuses_option(command)));
+    if code == 0x02 {
         return fail(both(f.b7, holds_answer(command)), card, 0x02);
     }
-    if both(f.b7, refuses_option(command)) {
+    if code == 0x03 {
         return answer(card, Reply::Error(0x03));
     }
     perform(card, locks, f.b7, frame, at, command)
