@@ -1,42 +1,33 @@
+-- `walk::Walk::marked` meets its contract: the mark is stored at its level, and the record made anew. Assumes nothing.
 use borrow.Author.Needs.{needs}
+use Rattle.walk.specs.Record.{marked}
 use Rattle.walk.proofs.Walk.marked.Statement.{statement}
 use Rattle.walk.proofs.Walk.marked.Tie as tie
-use Rattle.walk.proofs.Walk.marked.Reads as reads
-use Rattle.walk.proofs.Walk.marked.Lts as lts
-use Rattle.walk.proofs.Walk.remade.Reads as remade-reads
-use Rattle.walk.proofs.marks.with_mark.Reads as with-mark-reads
 
--- src/record.rt:111:18
 cast-at : tie.Need-cast-at
 cast-at c = search needs
 
--- src/record.rt:112:31
 mul-with-mark : tie.Need-mul-with-mark
 mul-with-mark c = search needs
 
--- src/record.rt:112:31
 array-read-with-mark : tie.Need-array-read-with-mark
 array-read-with-mark c = search needs
 
--- src/record.rt:112:21
 with-mark-requires : tie.Need-with-mark-requires
 with-mark-requires c κs = search needs
 
--- src/record.rt:112:9
 mul-marks : tie.Need-mul-marks
 mul-marks c = search needs
 
--- src/record.rt:112:9
 array-write-marks : tie.Need-array-write-marks
 array-write-marks c = search needs
 
--- src/record.rt:113:9
 remade-requires : tie.Need-remade-requires
 remade-requires c κs = search needs
 
--- src/record.rt:105:5
 returns : tie.Need-returns
-returns c = ?
+unfolding marked
+returns c = rw (c .remade .ensures, c .before .with-mark .ensures)
 
 pub marked-spec : {M : Type 1} → statement M
 marked-spec =

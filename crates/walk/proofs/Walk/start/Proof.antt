@@ -1,11 +1,12 @@
+-- `walk::Walk::start` meets its contract: the definition itself. Assumes nothing.
+use mathlib.Core.Path.{refl}
+use Rattle.walk.specs.Record.{noMarks, started}
 use Rattle.walk.proofs.Walk.start.Statement.{statement}
 use Rattle.walk.proofs.Walk.start.Tie as tie
-use Rattle.walk.proofs.Walk.start.Reads as reads
-use Rattle.walk.proofs.Walk.start.Lts as lts
 
--- src/record.rt:33:5
 returns : tie.Need-returns
-returns c = ?
+unfolding noMarks started
+returns c = refl
 
 pub start-spec : {M : Type 1} → statement M
 start-spec = tie.close (tie.spec returns)

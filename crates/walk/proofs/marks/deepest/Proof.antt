@@ -1,49 +1,48 @@
+-- `walk::marks::deepest` meets its contract. The loop's invariant: the deepest of the first n levels is the deepest of all. Assumes nothing.
+use mathlib.Core.Path.{_≡_, refl, sym, _∙_}
+use Prim.Native.Nat.{ℕ, _≤_}
+use native.Mathlib.Omega.{arith}
+use Rattle.walk.specs.Marks.{levels, deepestOf, deepest}
+use Rattle.walk.proofs.Levels.{deepest-here, deepest-before}
 use Rattle.walk.proofs.marks.deepest.Statement.{statement}
 use Rattle.walk.proofs.marks.deepest.Tie as tie
-use Rattle.walk.proofs.marks.deepest.Reads as reads
-use Rattle.walk.proofs.marks.deepest.Lts as lts
 
 abbrev Inv-loop : tie.InvT-loop
-Inv-loop marks n₀ n = ?
+Inv-loop marks n₀ n = (n ≤ 16) × (deepestOf marks n ≡ deepest marks)
 
 abbrev μ-loop : tie.MeasureT-loop
-μ-loop marks n₀ n = ?
+μ-loop marks n₀ n = n
 
--- src/marks.rt:54:5
 loop-holds : tie.Need-loop-holds Inv-loop μ-loop
-loop-holds c = ?
+unfolding levels deepest
+loop-holds c = (omega arith, refl)
 
--- src/marks.rt:55:18
 sub-if1 : tie.Need-sub-if1 Inv-loop μ-loop
-sub-if1 c = ?
+sub-if1 c = omega arith
 
--- src/marks.rt:55:12
 mul-if1 : tie.Need-mul-if1 Inv-loop μ-loop
-mul-if1 c = ?
+mul-if1 c = omega arith
 
--- src/marks.rt:55:12
 array-read-if1 : tie.Need-array-read-if1 Inv-loop μ-loop
-array-read-if1 c = ?
+array-read-if1 c = omega arith
 
--- src/marks.rt:56:13
 returns : tie.Need-returns Inv-loop μ-loop
-returns c = ?
+returns c = sym (deepest-here _ _ (c .before .loop-test .taken) (c .if1 .taken)) ∙ c .before .before .loop .inv .1
 
--- src/marks.rt:58:9
 sub-n : tie.Need-sub-n Inv-loop μ-loop
-sub-n c = ?
+sub-n c = omega arith
 
--- src/marks.rt:54:5
 loop-less : tie.Need-loop-less Inv-loop μ-loop
-loop-less c = ?
+loop-less c = omega arith
 
--- src/marks.rt:54:5
 loop-again : tie.Need-loop-again Inv-loop μ-loop
-loop-again c = ?
+loop-again c = (omega arith, sym (deepest-before _ _ (c .before .loop-test .taken) (c .if1 .left)) ∙ c .before .before .loop .inv .1)
 
--- src/marks.rt:50:1
 returns-2 : tie.Need-returns-2 Inv-loop μ-loop
-returns-2 c = ?
+unfolding deepestOf
+returns-2 c =
+    let none : c .before .loop .n ≡ 0 = omega arith in
+    rw none at (c .before .loop .inv .1)
 
 pub deepest-spec : {M : Type 1} → statement M
 deepest-spec =

@@ -1,30 +1,32 @@
+-- `walk::marks::with_mark` meets its contract, by whether the slot waits: a bit that is clear stays within sixteen bits when set.
+-- Assumes nothing.
 use borrow.Author.Needs.{needs}
+use mathlib.Core.Path.{sym, _∙_}
+use native.Mathlib.Omega.{arith}
+use Rattle.walk.specs.Marks.{withMark}
+use Rattle.walk.proofs.Levels.{mark-fits}
 use Rattle.walk.proofs.marks.with_mark.Statement.{statement}
 use Rattle.walk.proofs.marks.with_mark.Tie as tie
-use Rattle.walk.proofs.marks.with_mark.Reads as reads
-use Rattle.walk.proofs.marks.with_mark.Lts as lts
-use Rattle.walk.proofs.marks.power.Reads as power-reads
-use Rattle.walk.proofs.marks.waits.Reads as waits-reads
 
--- src/marks.rt:25:8
 waits-requires : tie.Need-waits-requires
 waits-requires c κs = search needs
 
--- src/marks.rt:25:37
 power-requires : tie.Need-power-requires
 power-requires c κs = search needs
 
--- src/marks.rt:25:33
 add-result : tie.Need-add-result
-add-result c = ?
+add-result c =
+    let args = c .before .before .before .args in
+    let clear = sym (c .before .before .waits .ensures) ∙ c .before .if1 .left in
+    omega (arith, c .power .ensures, mark-fits (args .m) (args .s) (omega arith) (c .before .before .before .pre) clear)
 
--- src/marks.rt:21:1
 returns : tie.Need-returns
-returns c = ?
+unfolding withMark
+returns c = rw (← (c .before .waits .ensures), c .if1 .taken)
 
--- src/marks.rt:21:1
 returns-2 : tie.Need-returns-2
-returns-2 c = ?
+unfolding withMark
+returns-2 c = rw (← (c .before .before .waits .ensures), c .before .if1 .left, c .power .ensures)
 
 pub with-mark-spec : {M : Type 1} → statement M
 with-mark-spec = tie.close (tie.spec waits-requires power-requires add-result returns returns-2)

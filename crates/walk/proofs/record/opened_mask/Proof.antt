@@ -1,41 +1,49 @@
+-- `walk::record::opened_mask` meets its contract: a shift makes the power of two, and a digit above a mask of 14 at the most stays
+-- within 64 bits. Assumes nothing.
 use borrow.Author.Needs.{needs}
+use Prim.Native.Nat.{_*_, _^_}
+use native.Mathlib.Omega.{arith}
+use lib.Pow.{pow-pos}
+use Rattle.slots.proofs.Bits.{bit-at}
+use Rattle.walk.specs.Record.{maskLength, openedMask}
+use Rattle.walk.proofs.Limits.{unit-most, digit-most, digit-fits}
 use Rattle.walk.proofs.record.opened_mask.Statement.{statement}
 use Rattle.walk.proofs.record.opened_mask.Tie as tie
-use Rattle.walk.proofs.record.opened_mask.Reads as reads
-use Rattle.walk.proofs.record.opened_mask.Lts as lts
-use Rattle.slots.proofs.low_bits.Reads as low-bits-reads
 
--- src/record.rt:27:25
 mul-unit : tie.Need-mul-unit
 mul-unit c = search needs
 
--- src/record.rt:27:25
 cast-unit : tie.Need-cast-unit
 cast-unit c = search needs
 
--- src/record.rt:27:16
 shl-unit : tie.Need-shl-unit
 shl-unit c = search needs
 
--- src/record.rt:28:27
 mul-low-bits : tie.Need-mul-low-bits
 mul-low-bits c = search needs
 
--- src/record.rt:28:5
 low-bits-requires : tie.Need-low-bits-requires
 low-bits-requires c κs = search needs
 
--- src/record.rt:28:36
 mul-result : tie.Need-mul-result
-mul-result c = ?
+mul-result c =
+    let args = c .before .args in
+    let unit = bit-at (4 * args .j) (omega arith) in
+    rw unit (omega (arith, unit-most (args .j) (c .before .pre .0), digit-most (2 ^ (4 * args .j)) (args .s) (c .before .pre .1)))
 
--- src/record.rt:28:5
 add-result : tie.Need-add-result
-add-result c = ?
+add-result c =
+    let args = c .before .args in
+    let unit = bit-at (4 * args .j) (omega arith) in
+    let top = digit-fits (args .mask) (2 ^ (4 * args .j)) (args .s) (pow-pos (4 * args .j)) (c .before .pre .1) in
+    rw (unit, c .low-bits .ensures) (omega (arith, unit-most (args .j) (c .before .pre .0), top))
 
--- src/record.rt:22:1
 returns : tie.Need-returns
-returns c = ?
+unfolding openedMask maskLength
+returns c =
+    let args = c .before .args in
+    let unit = bit-at (4 * args .j) (omega arith) in
+    rw (unit, c .low-bits .ensures)
 
 pub opened-mask-spec : {M : Type 1} → statement M
 opened-mask-spec =
