@@ -59,9 +59,9 @@ lowest-from-most m s (suc n) = go (waits m s) (lowest-from-most m (suc s) n)
     go true h = omega arith
     go false h = omega arith
 
-pub lowest-most : (m : ℕ) → lowest m ≤ 15
+pub lowest-is-slot : (m : ℕ) → lowest m < 16
 unfolding lowest
-lowest-most m = lowest-from-most m 0 15
+lowest-is-slot m = omega (arith, lowest-from-most m 0 15)
 
 -- it is this slot, or else among those after it
 pub lowest-here : (m s : ℕ) → s < 15 → waits m s ≡ true → lowestFrom m s (15 - s) ≡ s

@@ -1,35 +1,39 @@
+-- `walk::Walk::hear` meets its contract: refused, or the slot judged and taken (HearWays.antt). Assumes nothing.
 use borrow.Author.Needs.{needs}
+use lib.ListN.{length}
+use Rattle.walk.proofs.Limits.{accepted-of-is-accepted}
+use Rattle.walk.proofs.HearWays.{served-of-refusal, hears-refused, hears-served}
 use Rattle.walk.proofs.Walk.hear.Statement.{statement}
 use Rattle.walk.proofs.Walk.hear.Tie as tie
-use Rattle.walk.proofs.Walk.hear.Reads as reads
-use Rattle.walk.proofs.Walk.hear.Lts as lts
-use Rattle.walk.proofs.hear.judge.Reads as judge-reads
-use Rattle.walk.proofs.hear.refusal.Reads as refusal-reads
-use Rattle.walk.proofs.hear.take.Reads as take-reads
 
--- src/hear.rt:151:13
 refusal-requires : tie.Need-refusal-requires
 refusal-requires c κs = search needs
 
--- src/hear.rt:153:13
 returns : tie.Need-returns
-returns c = ?
+returns c =
+    let args = c .before .before .before .before .args in
+    hears-refused (args .self) (args .kind) (args .bytes .now) (args .list .now) _ (c .before .refusal .ensures) (c .if1 .taken)
 
--- src/hear.rt:158:13
 judge-requires : tie.Need-judge-requires
-judge-requires c κs = ?
+judge-requires c κs =
+    let args = c .before .before .before .before .args in
+    let served = served-of-refusal (args .self) (length (args .list .now)) _ (c .before .refusal .ensures) (c .if1 .left) in
+    accepted-of-is-accepted (args .self) (served .accepted) .level
 
--- src/hear.rt:160:19
 take-requires : tie.Need-take-requires
-take-requires c κs = ?
+take-requires c κs =
+    let args = c .before .before .before .before .before .before .args in
+    let served = served-of-refusal (args .self) (length (args .list .now)) _ (c .before .before .before .refusal .ensures) (c .before .before .if1 .left) in
+    (served .accepted, served .list)
 
--- src/hear.rt:148:5
 same-length : tie.Need-same-length
 same-length c = search needs
 
--- src/hear.rt:148:5
 returns-2 : tie.Need-returns-2
-returns-2 c = ?
+returns-2 c =
+    let args = c .before .before .before .before .before .before .before .before .before .args in
+    hears-served (args .self) (args .kind) (args .bytes .now) (args .list .now) _ _ _ _ (c .before .before .before .before .before .before .refusal .ensures) (c .before .before .before .before .before .if1 .left) (c .before .before .before .before .judge .ensures)
+    (c .before .before .take .ensures)
 
 pub hear-spec : {M : Type 1} → statement M
 hear-spec =

@@ -1,50 +1,94 @@
+-- `walk::Walk::is_accepted` meets its contract: the definition goes by the same seven tests. Assumes nothing.
 use borrow.Author.Needs.{needs}
+use borrow.Author.Tests.{lt-ltb, le-ltb, le-leb, lt-leb, not-true, not-false}
+use Prim.Native.Nat.{_≤_, _<_}
+use native.Mathlib.Omega.{arith}
+use Rattle.walk.specs.Marks.{levels}
+use Rattle.walk.specs.Record.{places, mostRounds, maskLength, isAccepted}
 use Rattle.walk.proofs.Walk.is_accepted.Statement.{statement}
 use Rattle.walk.proofs.Walk.is_accepted.Tie as tie
-use Rattle.walk.proofs.Walk.is_accepted.Reads as reads
-use Rattle.walk.proofs.Walk.is_accepted.Lts as lts
-use Rattle.slots.proofs.is_below.Reads as is-below-reads
-use Rattle.walk.proofs.record.marks_fit.Reads as marks-fit-reads
 
--- src/record.rt:54:13
 returns : tie.Need-returns
-returns c = ?
+unfolding isAccepted levels places mostRounds maskLength
+returns c =
+    let w = c .before .before .before .args .self in
+    let first = c .if1 in
+    rw (le-ltb (w .level) 16 (first .taken))
 
--- src/record.rt:57:13
 returns-2 : tie.Need-returns-2
-returns-2 c = ?
+unfolding isAccepted levels places mostRounds maskLength
+returns-2 c =
+    let w = c .before .before .before .before .before .args .self in
+    let first = c .before .before .if1 in
+    let second = c .if2 in
+    rw (lt-ltb (w .level) 16 (first .left), lt-leb (w .slot) 15 (second .taken))
 
--- src/record.rt:60:13
 returns-3 : tie.Need-returns-3
-returns-3 c = ?
+unfolding isAccepted levels places mostRounds maskLength
+returns-3 c =
+    let w = c .before .before .before .before .before .before .before .args .self in
+    let first = c .before .before .before .before .if1 in
+    let second = c .before .before .if2 in
+    let third = c .if3 in
+    rw (lt-ltb (w .level) 16 (first .left), le-leb (w .slot) 15 (second .left), lt-leb (w .count) 64 (third .taken))
 
--- src/record.rt:63:13
 returns-4 : tie.Need-returns-4
-returns-4 c = ?
+unfolding isAccepted levels places mostRounds maskLength
+returns-4 c =
+    let w = c .before .before .before .before .before .before .before .before .before .args .self in
+    let first = c .before .before .before .before .before .before .if1 in
+    let second = c .before .before .before .before .if2 in
+    let third = c .before .before .if3 in
+    let fourth = c .if4 in
+    let none : w .rounds < 1 = omega (arith, fourth .taken) in
+    rw (lt-ltb (w .level) 16 (first .left), le-leb (w .slot) 15 (second .left), le-leb (w .count) 64 (third .left), lt-leb 1 (w .rounds) none)
 
--- src/record.rt:66:13
 returns-5 : tie.Need-returns-5
-returns-5 c = ?
+unfolding isAccepted levels places mostRounds maskLength
+returns-5 c =
+    let w = c .before .before .before .before .before .before .before .before .before .before .before .args .self in
+    let first = c .before .before .before .before .before .before .before .before .if1 in
+    let second = c .before .before .before .before .before .before .if2 in
+    let third = c .before .before .before .before .if3 in
+    let fourth = c .before .before .if4 in
+    let fifth = c .if5 in
+    let one : 1 ≤ w .rounds = omega (arith, fourth .left) in
+    rw (lt-ltb (w .level) 16 (first .left), le-leb (w .slot) 15 (second .left), le-leb (w .count) 64 (third .left), le-leb 1 (w .rounds) one, lt-leb (w .rounds) 481 (fifth .taken))
 
--- src/record.rt:68:40
 mul-is-below : tie.Need-mul-is-below
 mul-is-below c = search needs
 
--- src/record.rt:68:13
 is-below-requires : tie.Need-is-below-requires
 is-below-requires c κs = search needs
 
--- src/record.rt:69:13
 returns-6 : tie.Need-returns-6
-returns-6 c = ?
+unfolding isAccepted levels places mostRounds maskLength
+returns-6 c =
+    let w = c .before .before .before .before .before .before .before .before .before .before .before .before .before .before .args .self in
+    let first = c .before .before .before .before .before .before .before .before .before .before .before .if1 in
+    let second = c .before .before .before .before .before .before .before .before .before .if2 in
+    let third = c .before .before .before .before .before .before .before .if3 in
+    let fourth = c .before .before .before .before .before .if4 in
+    let fifth = c .before .before .before .if5 in
+    let one : 1 ≤ w .rounds = omega (arith, fourth .left) in
+    let is-below = c .before .is-below in
+    rw (lt-ltb (w .level) 16 (first .left), le-leb (w .slot) 15 (second .left), le-leb (w .count) 64 (third .left), le-leb 1 (w .rounds) one, le-leb (w .rounds) 481 (fifth .left), ← (is-below .ensures), not-true (is-below .result) (c .if6 .taken))
 
--- src/record.rt:71:9
 marks-fit-requires : tie.Need-marks-fit-requires
 marks-fit-requires c κs = search needs
 
--- src/record.rt:49:5
 returns-7 : tie.Need-returns-7
-returns-7 c = ?
+unfolding isAccepted levels places mostRounds maskLength
+returns-7 c =
+    let w = c .before .before .before .before .before .before .before .before .before .before .before .before .before .before .before .args .self in
+    let first = c .before .before .before .before .before .before .before .before .before .before .before .before .if1 in
+    let second = c .before .before .before .before .before .before .before .before .before .before .if2 in
+    let third = c .before .before .before .before .before .before .before .before .if3 in
+    let fourth = c .before .before .before .before .before .before .if4 in
+    let fifth = c .before .before .before .before .if5 in
+    let one : 1 ≤ w .rounds = omega (arith, fourth .left) in
+    let is-below = c .before .before .is-below in
+    rw (lt-ltb (w .level) 16 (first .left), le-leb (w .slot) 15 (second .left), le-leb (w .count) 64 (third .left), le-leb 1 (w .rounds) one, le-leb (w .rounds) 481 (fifth .left), ← (is-below .ensures), not-false (is-below .result) (c .before .if6 .left), c .marks-fit .ensures)
 
 pub is-accepted-spec : {M : Type 1} → statement M
 is-accepted-spec =

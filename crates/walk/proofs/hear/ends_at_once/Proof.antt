@@ -1,40 +1,39 @@
+-- `walk::hear::ends_at_once` meets its contract, by the slot; the definition goes by the same tests. Assumes nothing.
 use borrow.Author.Needs.{needs}
+use borrow.Author.Tests.{lt-ltb, le-ltb}
+use Rattle.walk.specs.Record.{places}
+use Rattle.walk.specs.Hear.{endsAtOnce}
 use Rattle.walk.proofs.hear.ends_at_once.Statement.{statement}
 use Rattle.walk.proofs.hear.ends_at_once.Tie as tie
-use Rattle.walk.proofs.hear.ends_at_once.Reads as reads
-use Rattle.walk.proofs.hear.ends_at_once.Lts as lts
 
--- src/hear.rt:59:25
 enum-told : tie.Need-enum-told
 enum-told c = search needs
 
--- src/hear.rt:60:29
 enum-told-2 : tie.Need-enum-told-2
 enum-told-2 c = search needs
 
--- src/hear.rt:61:30
 enum-told-3 : tie.Need-enum-told-3
 enum-told-3 c = search needs
 
--- src/hear.rt:55:1
 returns : tie.Need-returns
-returns c = ?
+unfolding endsAtOnce places
+returns c = rw (c .enum-told .given .1)
 
--- src/hear.rt:55:1
 returns-2 : tie.Need-returns-2
-returns-2 c = ?
+unfolding endsAtOnce places
+returns-2 c = rw (c .before .before .enum-told2 .given .1, lt-ltb _ _ (c .if1 .taken))
 
--- src/hear.rt:55:1
 returns-3 : tie.Need-returns-3
-returns-3 c = ?
+unfolding endsAtOnce places
+returns-3 c = rw (c .before .before .enum-told2 .given .1, le-ltb _ _ (c .if1 .left))
 
--- src/hear.rt:55:1
 returns-4 : tie.Need-returns-4
-returns-4 c = ?
+unfolding endsAtOnce places
+returns-4 c = rw (c .before .before .enum-told3 .given .1, lt-ltb _ _ (c .if2 .taken))
 
--- src/hear.rt:55:1
 returns-5 : tie.Need-returns-5
-returns-5 c = ?
+unfolding endsAtOnce places
+returns-5 c = rw (c .before .before .enum-told3 .given .1, le-ltb _ _ (c .if2 .left))
 
 pub ends-at-once-spec : {M : Type 1} → statement M
 ends-at-once-spec =

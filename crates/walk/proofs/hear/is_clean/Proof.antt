@@ -1,47 +1,50 @@
+-- `walk::hear::is_clean` meets its contract: the definition goes by the same four tests. Assumes nothing.
 use borrow.Author.Needs.{needs}
+use borrow.Author.Tests.{eq-eqb, ne-eqb, not-true, not-false}
+use Rattle.walk.specs.Record.{maskLength}
+use Rattle.walk.specs.Hear.{isClean}
 use Rattle.walk.proofs.hear.is_clean.Statement.{statement}
 use Rattle.walk.proofs.hear.is_clean.Tie as tie
-use Rattle.walk.proofs.hear.is_clean.Reads as reads
-use Rattle.walk.proofs.hear.is_clean.Lts as lts
-use Rattle.crc.proofs.is_sealed.Reads as is-sealed-reads
-use Rattle.slots.proofs.fits_slot.Reads as fits-slot-reads
-use Rattle.walk.proofs.hear.uid_of.Reads as uid-of-reads
 
--- src/hear.rt:26:9
 returns : tie.Need-returns
-returns c = ?
+unfolding isClean maskLength
+returns c = rw (ne-eqb _ _ (c .if1 .taken))
 
--- src/hear.rt:28:9
 is-sealed-requires : tie.Need-is-sealed-requires
 is-sealed-requires c κs = search needs
 
--- src/hear.rt:29:9
 returns-2 : tie.Need-returns-2
-returns-2 c = ?
+unfolding isClean maskLength
+returns-2 c = rw (eq-eqb _ _ (c .before .before .if1 .left), ← (c .before .is-sealed .ensures), not-true (c .before .is-sealed .result) (c .if2 .taken))
 
--- src/hear.rt:31:8
 shared-slice-read-if3 : tie.Need-shared-slice-read-if3
 shared-slice-read-if3 c = search needs
 
--- src/hear.rt:32:9
 returns-3 : tie.Need-returns-3
-returns-3 c = ?
+unfolding isClean maskLength
+returns-3 c = rw (eq-eqb _ _ (c .before .before .before .before .if1 .left), ← (c .before .before .before .is-sealed .ensures), not-false (c .before .before .before .is-sealed .result) (c .before .before .if2 .left), ne-eqb _ _ (c .if3 .taken))
 
--- src/hear.rt:34:22
 uid-of-requires : tie.Need-uid-of-requires
 uid-of-requires c κs = search needs
 
--- src/hear.rt:34:37
 mul-fits-slot : tie.Need-mul-fits-slot
 mul-fits-slot c = search needs
 
--- src/hear.rt:34:5
 fits-slot-requires : tie.Need-fits-slot-requires
 fits-slot-requires c κs = search needs
 
--- src/hear.rt:21:1
 returns-4 : tie.Need-returns-4
-returns-4 c = ?
+unfolding isClean maskLength
+returns-4 c =
+    let is-sealed = c .before .before .before .before .before .before .is-sealed in
+    let uid-of = c .before .before .uid-of in
+    rw (
+      eq-eqb _ _ (c .before .before .before .before .before .before .before .if1 .left),
+      ← (is-sealed .ensures),
+      not-false (is-sealed .result) (c .before .before .before .before .before .if2 .left),
+      eq-eqb _ _ (c .before .before .before .if3 .left),
+      ← (uid-of .ensures),
+    ) (c .fits-slot .ensures)
 
 pub is-clean-spec : {M : Type 1} → statement M
 is-clean-spec =

@@ -1,46 +1,39 @@
+-- `walk::hear::judge` meets its contract, by the kind; bytes by whether they are clean. Assumes nothing.
 use borrow.Author.Needs.{needs}
+use Rattle.walk.specs.Hear.{judged}
 use Rattle.walk.proofs.hear.judge.Statement.{statement}
 use Rattle.walk.proofs.hear.judge.Tie as tie
-use Rattle.walk.proofs.hear.judge.Reads as reads
-use Rattle.walk.proofs.hear.judge.Lts as lts
-use Rattle.walk.proofs.hear.is_clean.Reads as is-clean-reads
-use Rattle.walk.proofs.hear.uid_of.Reads as uid-of-reads
 
--- src/hear.rt:42:26
 enum-told : tie.Need-enum-told
 enum-told c = search needs
 
--- src/hear.rt:43:24
 enum-told-2 : tie.Need-enum-told-2
 enum-told-2 c = search needs
 
--- src/hear.rt:45:16
 enum-told-3 : tie.Need-enum-told-3
 enum-told-3 c = search needs
 
--- src/hear.rt:45:16
 is-clean-requires : tie.Need-is-clean-requires
 is-clean-requires c κs = search needs
 
--- src/hear.rt:46:29
 uid-of-requires : tie.Need-uid-of-requires
 uid-of-requires c κs = search needs
 
--- src/hear.rt:37:1
 returns : tie.Need-returns
-returns c = ?
+unfolding judged
+returns c = rw (c .enum-told .given .1)
 
--- src/hear.rt:37:1
 returns-2 : tie.Need-returns-2
-returns-2 c = ?
+unfolding judged
+returns-2 c = rw (c .enum-told2 .given .1)
 
--- src/hear.rt:37:1
 returns-3 : tie.Need-returns-3
-returns-3 c = ?
+unfolding judged
+returns-3 c = rw (c .before .before .before .enum-told3 .given .1, ← (c .before .before .is-clean .ensures), c .before .if1 .taken, c .uid-of .ensures)
 
--- src/hear.rt:37:1
 returns-4 : tie.Need-returns-4
-returns-4 c = ?
+unfolding judged
+returns-4 c = rw (c .before .before .enum-told3 .given .1, ← (c .before .is-clean .ensures), c .if1 .left)
 
 pub judge-spec : {M : Type 1} → statement M
 judge-spec =

@@ -1,8 +1,10 @@
+-- `walk::hear::note_in_list` meets its contract, by the slot: a clean UID finds its place. Assumes nothing.
 use borrow.Author.Needs.{needs}
+use native.Mathlib.Omega.{arith}
+use Rattle.walk.specs.Hear.{listNoted}
+use Rattle.walk.proofs.HearWays.{clean-goes-on}
 use Rattle.walk.proofs.hear.note_in_list.Statement.{statement}
 use Rattle.walk.proofs.hear.note_in_list.Tie as tie
-use Rattle.walk.proofs.hear.note_in_list.Reads as reads
-use Rattle.walk.proofs.hear.note_in_list.Lts as lts
 
 enum-told : tie.Need-enum-told
 enum-told c = search needs
@@ -10,37 +12,32 @@ enum-told c = search needs
 enum-told-2 : tie.Need-enum-told-2
 enum-told-2 c = search needs
 
--- src/hear.rt:85:21
 enum-known-slot : tie.Need-enum-known-slot
 enum-known-slot c = search needs
 
--- src/hear.rt:86:18
 cast-list : tie.Need-cast-list
 cast-list c = search needs
 
--- src/hear.rt:86:13
 mul-list : tie.Need-mul-list
 mul-list c = search needs
 
--- src/hear.rt:86:13
 slice-write-list : tie.Need-slice-write-list
-slice-write-list c = ?
+slice-write-list c = omega (arith, clean-goes-on (c .before .before .before .before .args .walk) (c .before .before .slot .given .1) (c .before .before .before .before .pre .0), c .before .before .before .before .pre .1)
 
--- src/hear.rt:77:1
 returns : tie.Need-returns
-returns c = ?
+unfolding listNoted
+returns c = rw (c .enum-told .given .1)
 
--- src/hear.rt:77:1
 returns-2 : tie.Need-returns-2
-returns-2 c = ?
+unfolding listNoted
+returns-2 c = rw (c .enum-told2 .given .1)
 
--- src/hear.rt:77:1
 same-length : tie.Need-same-length
 same-length c = search needs
 
--- src/hear.rt:77:1
 returns-3 : tie.Need-returns-3
-returns-3 c = ?
+unfolding listNoted
+returns-3 c = rw (c .before .before .slot .given .1)
 
 pub note-in-list-spec : {M : Type 1} → statement M
 note-in-list-spec =

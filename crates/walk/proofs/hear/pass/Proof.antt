@@ -1,31 +1,26 @@
+-- `walk::hear::pass` meets its contract: the next slot, or after slot 15 the turn. Assumes nothing.
 use borrow.Author.Needs.{needs}
+use borrow.Author.Tests.{lt-ltb, le-ltb}
+use Rattle.walk.specs.Hear.{passed}
 use Rattle.walk.proofs.hear.pass.Statement.{statement}
 use Rattle.walk.proofs.hear.pass.Tie as tie
-use Rattle.walk.proofs.hear.pass.Reads as reads
-use Rattle.walk.proofs.hear.pass.Lts as lts
-use Rattle.walk.proofs.Walk.at_next_slot.Reads as at-next-slot-reads
-use Rattle.walk.proofs.hear.turn.Reads as turn-reads
-use Rattle.walk.proofs.marks.deepest.Reads as deepest-reads
 
--- src/hear.rt:112:9
 at-next-slot-requires : tie.Need-at-next-slot-requires
 at-next-slot-requires c κs = search needs
 
--- src/hear.rt:112:9
 returns : tie.Need-returns
-returns c = ?
+unfolding passed
+returns c = rw (lt-ltb _ _ (c .before .if1 .taken)) (c .at-next-slot .ensures)
 
--- src/hear.rt:114:16
 deepest-requires : tie.Need-deepest-requires
 deepest-requires c κs = search needs
 
--- src/hear.rt:114:5
 turn-requires : tie.Need-turn-requires
 turn-requires c κs = search needs
 
--- src/hear.rt:106:1
 returns-2 : tie.Need-returns-2
-returns-2 c = ?
+unfolding passed
+returns-2 c = rw (le-ltb _ _ (c .before .before .if1 .left), c .turn .ensures, c .before .deepest .ensures)
 
 pub pass-spec : {M : Type 1} → statement M
 pass-spec =

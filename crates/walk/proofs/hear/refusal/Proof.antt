@@ -1,29 +1,29 @@
+-- `walk::hear::refusal` meets its contract: the definition goes by the same three tests, in the order of the page. Assumes nothing.
 use borrow.Author.Needs.{needs}
+use borrow.Author.Tests.{not-true, not-false, eq-eqb, ne-eqb, le-leb, lt-leb}
+use Rattle.walk.specs.Record.{places, isRunning}
+use Rattle.walk.specs.Hear.{refusal}
 use Rattle.walk.proofs.hear.refusal.Statement.{statement}
 use Rattle.walk.proofs.hear.refusal.Tie as tie
-use Rattle.walk.proofs.hear.refusal.Reads as reads
-use Rattle.walk.proofs.hear.refusal.Lts as lts
-use Rattle.walk.proofs.Walk.is_accepted.Reads as is-accepted-reads
 
--- src/hear.rt:120:9
 is-accepted-requires : tie.Need-is-accepted-requires
 is-accepted-requires c κs = search needs
 
--- src/hear.rt:121:9
 returns : tie.Need-returns
-returns c = ?
+unfolding refusal isRunning places
+returns c = rw (← (c .before .is-accepted .ensures), not-true (c .before .is-accepted .result) (c .if1 .taken))
 
--- src/hear.rt:124:9
 returns-2 : tie.Need-returns-2
-returns-2 c = ?
+unfolding refusal isRunning places
+returns-2 c = rw (← (c .before .before .before .is-accepted .ensures), not-false (c .before .before .before .is-accepted .result) (c .before .before .if1 .left), ne-eqb _ _ (c .if2 .taken))
 
--- src/hear.rt:127:9
 returns-3 : tie.Need-returns-3
-returns-3 c = ?
+unfolding refusal isRunning places
+returns-3 c = rw (← (c .before .before .before .before .is-accepted .ensures), not-false (c .before .before .before .before .is-accepted .result) (c .before .before .before .if1 .left), eq-eqb _ _ (c .before .if2 .left), lt-leb _ _ (c .if3 .taken))
 
--- src/hear.rt:117:1
 returns-4 : tie.Need-returns-4
-returns-4 c = ?
+unfolding refusal isRunning places
+returns-4 c = rw (← (c .before .before .before .before .is-accepted .ensures), not-false (c .before .before .before .before .is-accepted .result) (c .before .before .before .if1 .left), eq-eqb _ _ (c .before .if2 .left), le-leb _ _ (c .if3 .left))
 
 pub refusal-spec : {M : Type 1} → statement M
 refusal-spec = tie.close (tie.spec is-accepted-requires returns returns-2 returns-3 returns-4)

@@ -1,45 +1,40 @@
+-- `walk::hear::take` meets its contract: ended at once, or noted and passed (HearWays.antt). Assumes nothing.
 use borrow.Author.Needs.{needs}
+use mathlib.Core.Path.{sym, _∙_}
+use Prim.Native.Nat.{_<_}
+use Rattle.walk.specs.Marks.{deepest}
+use Rattle.walk.proofs.HearWays.{noted-deepest, after-ending, after-passing}
 use Rattle.walk.proofs.hear.take.Statement.{statement}
 use Rattle.walk.proofs.hear.take.Tie as tie
-use Rattle.walk.proofs.hear.take.Reads as reads
-use Rattle.walk.proofs.hear.take.Lts as lts
-use Rattle.walk.proofs.Walk.ended.Reads as ended-reads
-use Rattle.walk.proofs.hear.ends_at_once.Reads as ends-at-once-reads
-use Rattle.walk.proofs.hear.note.Reads as note-reads
-use Rattle.walk.proofs.hear.note_in_list.Reads as note-in-list-reads
-use Rattle.walk.proofs.hear.pass.Reads as pass-reads
 
--- src/hear.rt:138:9
 ends-at-once-requires : tie.Need-ends-at-once-requires
 ends-at-once-requires c κs = search needs
 
--- src/hear.rt:140:9
 ended-requires : tie.Need-ended-requires
 ended-requires c κs = search needs
 
--- src/hear.rt:140:9
 returns : tie.Need-returns
-returns c = ?
+returns c = after-ending _ _ _ _ _ (c .before .before .ends-at-once .ensures) (c .before .if1 .taken) (c .ended .ensures)
 
--- src/hear.rt:142:5
 note-in-list-requires : tie.Need-note-in-list-requires
 note-in-list-requires c κs = search needs
 
--- src/hear.rt:143:10
 note-requires : tie.Need-note-requires
 note-requires c κs = search needs
 
--- src/hear.rt:143:5
 pass-requires : tie.Need-pass-requires
-pass-requires c κs = ?
+pass-requires c κs =
+    let args = c .before .before .before .before .before .before .before .before .args in
+    rw (c .note .ensures) (noted-deepest (args .walk) (args .slot) (c .before .before .before .before .before .before .before .before .pre .0) (sym (c .before .before .before .before .before .before .ends-at-once .ensures) ∙ c .before .before .before .before .before .if1 .left))
 
--- src/hear.rt:133:1
 same-length : tie.Need-same-length
 same-length c = search needs
 
--- src/hear.rt:133:1
 returns-2 : tie.Need-returns-2
-returns-2 c = ?
+returns-2 c =
+    let args = c .before .before .before .before .before .before .before .before .before .args in
+    let goes-on = sym (c .before .before .before .before .before .before .before .ends-at-once .ensures) ∙ c .before .before .before .before .before .before .if1 .left in
+    after-passing (args .walk) (args .slot) (args .list .now) _ _ goes-on (rw (← (c .before .note .ensures)) (c .pass .ensures)) (c .before .before .before .before .note-in-list .ensures)
 
 pub take-spec : {M : Type 1} → statement M
 take-spec =

@@ -1,42 +1,33 @@
+-- `walk::hear::turn` meets its contract: complete, opened or overrun. Assumes nothing.
 use borrow.Author.Needs.{needs}
+use mathlib.Core.Path.{sym, _∙_}
+use Rattle.walk.proofs.HearWays.{turned-complete, turned-opened, turned-overrun}
 use Rattle.walk.proofs.hear.turn.Statement.{statement}
 use Rattle.walk.proofs.hear.turn.Tie as tie
-use Rattle.walk.proofs.hear.turn.Reads as reads
-use Rattle.walk.proofs.hear.turn.Lts as lts
-use Rattle.walk.proofs.Walk.ended.Reads as ended-reads
-use Rattle.walk.proofs.Walk.opened.Reads as opened-reads
 
--- src/hear.rt:97:9
 ended-requires : tie.Need-ended-requires
 ended-requires c κs = search needs
 
--- src/hear.rt:97:9
 returns : tie.Need-returns
-returns c = ?
+returns c = c .ended .ensures ∙ sym (turned-complete _ _ (c .before .if1 .taken))
 
--- src/hear.rt:100:22
 sub-opened : tie.Need-sub-opened
 sub-opened c = search needs
 
--- src/hear.rt:100:21
 cast-opened : tie.Need-cast-opened
 cast-opened c = search needs
 
--- src/hear.rt:100:9
 opened-requires : tie.Need-opened-requires
 opened-requires c κs = search needs
 
--- src/hear.rt:102:9
 ended-requires-2 : tie.Need-ended-requires-2
 ended-requires-2 c κs = search needs
 
--- src/hear.rt:92:1
 returns-2 : tie.Need-returns-2
-returns-2 c = ?
+returns-2 c = c .opened .ensures ∙ sym (turned-opened _ _ (c .before .before .before .if1 .left) (c .before .if2 .taken))
 
--- src/hear.rt:92:1
 returns-3 : tie.Need-returns-3
-returns-3 c = ?
+returns-3 c = c .ended2 .ensures ∙ sym (turned-overrun _ _ (c .before .before .before .if1 .left) (c .before .if2 .left))
 
 pub turn-spec : {M : Type 1} → statement M
 turn-spec =
