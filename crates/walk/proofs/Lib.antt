@@ -1,3 +1,5 @@
 pub mod Levels
 pub mod Limits
 pub mod HearWays
+pub mod Requests
+pub mod AskWays

@@ -1,35 +1,38 @@
+-- `walk::Walk::ask` meets its contract: refused, or what is to be sent, put into the room (AskWays.antt). Assumes nothing.
 use borrow.Author.Needs.{needs}
+use lib.ListN.{length}
+use Rattle.walk.proofs.Limits.{accepted-of-is-accepted}
+use Rattle.walk.proofs.AskWays.{served-of-refusal, asks-refused, asks-served}
 use Rattle.walk.proofs.Walk.ask.Statement.{statement}
 use Rattle.walk.proofs.Walk.ask.Tie as tie
-use Rattle.walk.proofs.Walk.ask.Reads as reads
-use Rattle.walk.proofs.Walk.ask.Lts as lts
-use Rattle.walk.proofs.ask.fill.Reads as fill-reads
-use Rattle.walk.proofs.ask.refusal.Reads as refusal-reads
-use Rattle.walk.proofs.ask.send.Reads as send-reads
 
--- src/ask.rt:104:13
 refusal-requires : tie.Need-refusal-requires
 refusal-requires c κs = search needs
 
--- src/ask.rt:106:13
 returns : tie.Need-returns
-returns c = ?
+returns c =
+    let args = c .before .before .before .args in
+    asks-refused (args .self) (args .room .now) _ (c .before .refusal .ensures) (c .if1 .taken)
 
--- src/ask.rt:112:13
 send-requires : tie.Need-send-requires
-send-requires c κs = ?
+send-requires c κs =
+    let args = c .before .before .before .args in
+    let served = served-of-refusal (args .self) (length (args .room .now)) _ (c .before .refusal .ensures) (c .if1 .left) in
+    accepted-of-is-accepted (args .self) (served .accepted) .level
 
--- src/ask.rt:113:9
 fill-requires : tie.Need-fill-requires
-fill-requires c κs = ?
+fill-requires c κs =
+    let args = c .before .before .before .before .before .args in
+    let served = served-of-refusal (args .self) (length (args .room .now)) _ (c .before .before .before .refusal .ensures) (c .before .before .if1 .left) in
+    (served .accepted, rw (c .before .send .ensures) (served .enough))
 
--- src/ask.rt:101:5
 same-length : tie.Need-same-length
 same-length c = search needs
 
--- src/ask.rt:101:5
 returns-2 : tie.Need-returns-2
-returns-2 c = ?
+returns-2 c =
+    let args = c .before .before .before .before .before .before .before .before .args in
+    asks-served (args .self) (args .room .now) _ _ _ (c .before .before .before .before .before .before .refusal .ensures) (c .before .before .before .before .before .if1 .left) (c .before .before .before .before .send .ensures) (c .before .before .fill .ensures)
 
 pub ask-spec : {M : Type 1} → statement M
 ask-spec =

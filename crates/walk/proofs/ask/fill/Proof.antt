@@ -1,9 +1,9 @@
+-- `walk::ask::fill` meets its contract, by what is sent. Assumes nothing.
 use borrow.Author.Needs.{needs}
+use Rattle.walk.specs.Ask.{roomAfter}
+use Rattle.walk.proofs.AskWays.{room-of-request}
 use Rattle.walk.proofs.ask.fill.Statement.{statement}
 use Rattle.walk.proofs.ask.fill.Tie as tie
-use Rattle.walk.proofs.ask.fill.Reads as reads
-use Rattle.walk.proofs.ask.fill.Lts as lts
-use Rattle.walk.proofs.ask.put_request.Reads as put-request-reads
 
 enum-told : tie.Need-enum-told
 enum-told c = search needs
@@ -11,29 +11,26 @@ enum-told c = search needs
 enum-told-2 : tie.Need-enum-told-2
 enum-told-2 c = search needs
 
--- src/ask.rt:90:31
 enum-told-3 : tie.Need-enum-told-3
 enum-told-3 c = search needs
 
--- src/ask.rt:90:13
 put-request-requires : tie.Need-put-request-requires
-put-request-requires c κs = ?
+put-request-requires c κs = (c .before .before .before .before .pre .0, room-of-request (c .before .enum-told3 .given .1) (c .before .before .before .before .pre .1))
 
--- src/ask.rt:81:1
 returns : tie.Need-returns
-returns c = ?
+unfolding roomAfter
+returns c = rw (c .enum-told .given .1)
 
--- src/ask.rt:81:1
 returns-2 : tie.Need-returns-2
-returns-2 c = ?
+unfolding roomAfter
+returns-2 c = rw (c .enum-told2 .given .1)
 
--- src/ask.rt:81:1
 same-length : tie.Need-same-length
 same-length c = search needs
 
--- src/ask.rt:81:1
 returns-3 : tie.Need-returns-3
-returns-3 c = ?
+unfolding roomAfter
+returns-3 c = rw (c .before .before .before .before .enum-told3 .given .1) (c .before .before .put-request .ensures .leaves)
 
 pub fill-spec : {M : Type 1} → statement M
 fill-spec =

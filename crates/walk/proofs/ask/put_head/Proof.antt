@@ -1,44 +1,37 @@
+-- `walk::ask::put_head` meets its contract: straight-line stores (Requests.antt). Assumes nothing.
 use borrow.Author.Needs.{needs}
+use native.Mathlib.Omega.{arith}
+use lib.ListN.{length-set}
+use Rattle.walk.proofs.Requests.{puts-family, puts-no-family}
 use Rattle.walk.proofs.ask.put_head.Statement.{statement}
 use Rattle.walk.proofs.ask.put_head.Tie as tie
-use Rattle.walk.proofs.ask.put_head.Reads as reads
-use Rattle.walk.proofs.ask.put_head.Lts as lts
 
--- src/ask.rt:18:5
 slice-write-room : tie.Need-slice-write-room
 slice-write-room c = search needs
 
--- src/ask.rt:20:9
 slice-write-room-2 : tie.Need-slice-write-room-2
-slice-write-room-2 c = ?
+slice-write-room-2 c = rw length-set (omega arith)
 
--- src/ask.rt:21:19
 cast-room : tie.Need-cast-room
 cast-room c = search needs
 
--- src/ask.rt:21:9
 slice-write-room-3 : tie.Need-slice-write-room-3
 slice-write-room-3 c = search needs
 
--- src/ask.rt:22:9
 same-length : tie.Need-same-length
 same-length c = search needs
 
--- src/ask.rt:22:9
 returns : tie.Need-returns
-returns c = ?
+returns c = puts-family _ _ (c .before .if1 .taken) (c .before .before .before .pre)
 
--- src/ask.rt:24:5
 slice-write-room-4 : tie.Need-slice-write-room-4
-slice-write-room-4 c = ?
+slice-write-room-4 c = rw length-set (omega arith)
 
--- src/ask.rt:14:1
 same-length-2 : tie.Need-same-length-2
 same-length-2 c = search needs
 
--- src/ask.rt:14:1
 returns-2 : tie.Need-returns-2
-returns-2 c = ?
+returns-2 c = puts-no-family _ _ (c .if1 .left) (c .before .before .pre)
 
 pub put-head-spec : {M : Type 1} → statement M
 put-head-spec =

@@ -1,33 +1,47 @@
+-- `walk::ask::refusal` meets its contract, by what is to be sent and its room (AskWays.antt). Assumes nothing.
 use borrow.Author.Needs.{needs}
+use borrow.Author.Tests.{not-true, not-false}
+use mathlib.Core.Path.{refl, sym, _∙_}
+use native.Mathlib.Omega.{arith}
+use Rattle.walk.specs.Ask.{roomAsked, refusal}
+use Rattle.walk.proofs.AskWays.{sent-nothing, sent-request, sent-mark, none-short, request-short}
 use Rattle.walk.proofs.ask.refusal.Statement.{statement}
 use Rattle.walk.proofs.ask.refusal.Tie as tie
-use Rattle.walk.proofs.ask.refusal.Reads as reads
-use Rattle.walk.proofs.ask.refusal.Lts as lts
-use Rattle.walk.proofs.Walk.is_accepted.Reads as is-accepted-reads
 
--- src/ask.rt:72:9
 is-accepted-requires : tie.Need-is-accepted-requires
 is-accepted-requires c κs = search needs
 
--- src/ask.rt:73:9
 returns : tie.Need-returns
-returns c = ?
+unfolding refusal
+returns c = rw (← (c .before .is-accepted .ensures), not-true (c .before .is-accepted .result) (c .if1 .taken))
 
--- src/ask.rt:76:9
 returns-2 : tie.Need-returns-2
-returns-2 c = ?
+unfolding roomAsked
+returns-2 c =
+    let args = c .before .before .before .before .args in
+    let accepted = sym (c .before .before .before .is-accepted .ensures) ∙ not-false (c .before .before .before .is-accepted .result) (c .before .before .if1 .left) in
+    sym (none-short (args .walk) (args .room) accepted (rw (sent-nothing (args .walk) (c .if2 .taken)) (omega arith)))
 
--- src/ask.rt:79:9
 returns-3 : tie.Need-returns-3
-returns-3 c = ?
+unfolding roomAsked
+returns-3 c =
+    let args = c .before .before .before .before .before .before .args in
+    let accepted = sym (c .before .before .before .before .before .is-accepted .ensures) ∙ not-false (c .before .before .before .before .before .is-accepted .result) (c .before .before .before .before .if1 .left) in
+    sym (none-short (args .walk) (args .room) accepted (rw (sent-mark (args .walk) (c .before .before .if2 .left) (c .if3 .taken)) (omega arith)))
 
--- src/ask.rt:69:1
 returns-4 : tie.Need-returns-4
-returns-4 c = ?
+returns-4 c =
+    let args = c .before .before .before .before .before .before .before .args in
+    let accepted = sym (c .before .before .before .before .before .before .is-accepted .ensures) ∙ not-false (c .before .before .before .before .before .before .is-accepted .result) (c .before .before .before .before .before .if1 .left) in
+    sym (request-short (args .walk) (args .room) accepted (c .before .before .before .if2 .left) (c .before .if3 .left) (c .if4 .taken))
 
--- src/ask.rt:69:1
 returns-5 : tie.Need-returns-5
-returns-5 c = ?
+unfolding roomAsked
+returns-5 c =
+    let args = c .before .before .before .before .before .before .before .args in
+    let accepted = sym (c .before .before .before .before .before .before .is-accepted .ensures) ∙ not-false (c .before .before .before .before .before .before .is-accepted .result) (c .before .before .before .before .before .if1 .left) in
+    let is-request = sent-request (args .walk) _ (c .before .before .before .if2 .left) (c .before .if3 .left) refl in
+    sym (none-short (args .walk) (args .room) accepted (rw is-request (c .if4 .left)))
 
 pub refusal-spec : {M : Type 1} → statement M
 refusal-spec =

@@ -1,33 +1,31 @@
+-- `walk::ask::request_length` meets its contract, by whether there is a family (Requests.antt). Assumes nothing.
 use borrow.Author.Needs.{needs}
+use mathlib.Core.Path.{sym, _∙_}
+use native.Mathlib.Omega.{arith}
+use Rattle.walk.specs.Record.{maskLength}
+use Rattle.walk.proofs.Requests.{mask-bytes-most, length-with-family, length-no-family}
 use Rattle.walk.proofs.ask.request_length.Statement.{statement}
 use Rattle.walk.proofs.ask.request_length.Tie as tie
-use Rattle.walk.proofs.ask.request_length.Reads as reads
-use Rattle.walk.proofs.ask.request_length.Lts as lts
-use Rattle.slots.proofs.mask_bytes.Reads as mask-bytes-reads
 
--- src/ask.rt:48:35
 mul-mask-bytes : tie.Need-mul-mask-bytes
 mul-mask-bytes c = search needs
 
--- src/ask.rt:48:9
 mask-bytes-requires : tie.Need-mask-bytes-requires
 mask-bytes-requires c κs = search needs
 
--- src/ask.rt:49:28
 add-result : tie.Need-add-result
-add-result c = ?
+add-result c = omega (arith, c .before .before .mask-bytes .ensures, mask-bytes-most (c .before .before .before .before .args .walk .level) (c .before .before .before .before .pre))
 
--- src/ask.rt:49:47
 add-result-2 : tie.Need-add-result-2
-add-result-2 c = ?
+add-result-2 c = omega (arith, c .before .before .mask-bytes .ensures, mask-bytes-most (c .before .before .before .before .args .walk .level) (c .before .before .before .before .pre))
 
--- src/ask.rt:44:1
 returns : tie.Need-returns
-returns c = ?
+unfolding maskLength
+returns c = rw (c .before .before .mask-bytes .ensures) (sym (length-with-family (c .before .before .before .before .args .walk) (c .if1 .taken)))
 
--- src/ask.rt:44:1
 returns-2 : tie.Need-returns-2
-returns-2 c = ?
+unfolding maskLength
+returns-2 c = rw (c .before .before .mask-bytes .ensures) (sym (length-no-family (c .before .before .before .before .args .walk) (c .if1 .left)))
 
 pub request-length-spec : {M : Type 1} → statement M
 request-length-spec =
