@@ -110,6 +110,7 @@ deepest-of-set marks level m k (suc n) h d = go (λ e. deepest-of-set marks leve
     past : (deepestOf marks n ≤ k → deepestOf (set marks level m) n ≤ k) → (t : Bool) → cond t (deepestOf marks n) (suc n) ≤ k → cond t (deepestOf (set marks level m) n) (suc n) ≤ k
     past before true e = before e
     past before false e = e
+
     go : (deepestOf marks n ≤ k → deepestOf (set marks level m) n ≤ k) → Dec (n < k)
         → cond (eqb (getD (set marks level m) n 0) 0) (deepestOf (set marks level m) n) (suc n) ≤ k
     go before (yes g) = omega (arith, deepest-of-most (set marks level m) (suc n))

@@ -3,3 +3,5 @@ pub mod Limits
 pub mod HearWays
 pub mod Requests
 pub mod AskWays
+pub mod Accepted
+pub mod Unique

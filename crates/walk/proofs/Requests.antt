@@ -97,7 +97,7 @@ over-rest : (s v e : List ℕ) (b : ℕ) → length s + 1 + length v ≤ length 
 over-rest s v e b h =
     let place : 0 + length s ≡ length s = omega arith in
     let one : set (over s e) (length s) b ≡ placed 0 (s ++ b ∷ []) e =
-        rw (← placed-start s e) (ap (λ (n : ℕ). set (placed 0 s e) n b) (sym place) ∙ set-placed 0 s e b (omega arith)) in
+    rw (← placed-start s e) (ap (λ (n : ℕ). set (placed 0 s e) n b) (sym place) ∙ set-placed 0 s e b (omega arith)) in
     let next : length s + 1 ≡ 0 + length (s ++ b ∷ []) = rw (length-append s (b ∷ [])) (omega arith) in
     rw (one, next, ← append-snoc s b v, ← placed-start (s ++ b ∷ [] ++ v) e) (placed-placed 0 (s ++ b ∷ []) v e (omega arith))
 
@@ -120,13 +120,13 @@ puts-request w e {at} {bytes} {first} {second} {third} head is field seal h k =
     let few : bytes ≤ 8 = rw is (mask-bytes-most (w .level) h) in
     let place : at ≡ length s = head .count in
     let room : length (set first at (4 * w .level)) ≡ length e =
-        length-set first at (4 * w .level) ∙ ap length (head .leaves) ∙ length-over s e (omega arith) in
+    length-set first at (4 * w .level) ∙ ap length (head .leaves) ∙ length-over s e (omega arith) in
     let body-left : second ≡ over body e =
-        put-field-unique field (puts-served (set first at (4 * w .level)) (at + 1) bytes (w .mask) (omega arith)) .1
-        ∙ rw (head .leaves, place) (over-rest s v e (4 * w .level) (omega arith)) in
+    put-field-unique field (puts-served (set first at (4 * w .level)) (at + 1) bytes (w .mask) (omega arith)) .1
+    ∙ rw (head .leaves, place) (over-rest s v e (4 * w .level) (omega arith)) in
     let same : length second ≡ length e = ap length body-left ∙ length-over body e (omega arith) in
     let end : at + 1 + bytes ≡ length body = omega arith in
     let sealed-left : third ≡ over (sealed (take (at + 1 + bytes) second)) second =
-        seal-unique seal (seals-served second (at + 1 + bytes) (omega arith)) .1 ∙ placed-check second (at + 1 + bytes) (omega arith) in
+    seal-unique seal (seals-served second (at + 1 + bytes) (omega arith)) .1 ∙ placed-check second (at + 1 + bytes) (omega arith) in
     let whole : over (sealed (take (at + 1 + bytes) second)) second ≡ over (sealed body) e = rw (end, body-left) (over-check body e) in
     record { count = omega (arith, length-request w); leaves = sealed-left ∙ whole ∙ rw is }
