@@ -5,3 +5,4 @@ pub mod Requests
 pub mod AskWays
 pub mod Accepted
 pub mod Unique
+pub mod Examples
