@@ -1,16 +1,16 @@
 -- Every record that a walk reaches is one that number 10 accepts: the first is, and after each slot, of any kind, it stays so, ended or not.
 -- By what each change does to the eight facts of an accepted record. Assumes nothing.
-use mathlib.Core.Path.{_≡_, refl, sym, ap, _∙_}
+use mathlib.Core.Path.{_≡_, refl}
 use mathlib.Core.Bool.{Bool, true, false, cond}
-use Prim.Native.Nat.{ℕ, zero, suc, _+_, _≤_, _<_}
+use Prim.Native.Nat.{ℕ, zero, suc, _+_, _<_}
 use native.Mathlib.Omega.{arith}
-use borrow.Author.Tests.{ltb-true, ltb-false, eqb-true}
+use borrow.Author.Tests.{ltb-true, eqb-true}
 use lib.Dec.{ltb, eqb}
 use lib.ListN.{getD}
 use Rattle.walk.specs.declared.Walk.{Walk}
 use Rattle.walk.specs.declared.Slot.{Slot}
 use Rattle.walk.specs.declared.Slot.the-variants.{Silent, Clashed, Clean}
-use Rattle.walk.specs.Marks.{waits, levels, deepestOf, deepest, withMark, withoutMark, lowest}
+use Rattle.walk.specs.Marks.{levels, deepestOf, deepest, withMark, withoutMark, lowest}
 use Rattle.walk.specs.Record.{places, mostRounds, maskLength, marksFit, isAccepted, remade, ended, counted, marked, atNextSlot, openedAt, opened, noMarks, started}
 use Rattle.walk.specs.Hear.{endsAtOnce, noted, turned, passed, walkAfter}
 use Rattle.walk.proofs.Levels.{lowest-is-slot, deepest-set}

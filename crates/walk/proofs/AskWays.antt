@@ -1,6 +1,6 @@
 -- The ways out of asking what to send: refused, or served with the room that it asks for. By the tests of the definitions.
 -- Assumes nothing.
-use mathlib.Core.Path.{_≡_, refl, sym, ap, _∙_}
+use mathlib.Core.Path.{_≡_, refl, sym, _∙_}
 use mathlib.Core.Bool.{Bool, true, false, cond}
 use mathlib.Core.List.{List}
 use Prim.Native.Nat.{ℕ, _≤_, _<_}
@@ -11,7 +11,6 @@ use lib.ListN.{length}
 use Rattle.walk.specs.declared.Walk.{Walk}
 use Rattle.walk.specs.declared.Send.{Send}
 use Rattle.walk.specs.declared.Send.the-variants.{Nothing, Mark, Request}
-use Rattle.walk.specs.declared.Asked.{Asked}
 use Rattle.walk.specs.Record.{isRunning, isAccepted}
 use Rattle.walk.specs.Ask.{request, sent, roomAsked, roomAfter, refusal, asking, Asks}
 

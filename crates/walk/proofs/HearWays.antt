@@ -2,21 +2,20 @@
 use mathlib.Core.Path.{_≡_, refl, sym, ap, _∙_}
 use mathlib.Core.Bool.{Bool, true, false, cond}
 use mathlib.Core.List.{List}
-use Prim.Native.Nat.{ℕ, zero, suc, _+_, _-_, _≤_, _<_}
+use Prim.Native.Nat.{ℕ, suc, _-_, _≤_, _<_}
 use native.Mathlib.Omega.{arith}
-use borrow.Author.Tests.{lt-ltb, le-ltb, ltb-true, leb-true, eq-eqb, ne-eqb}
+use borrow.Author.Tests.{lt-ltb, le-ltb, ltb-true, leb-true, ne-eqb}
 use lib.Dec.{leb, ltb, eqb}
 use lib.ListN.{length, getD}
 use Rattle.walk.specs.declared.Walk.{Walk}
 use Rattle.walk.specs.declared.Kind.{Kind}
 use Rattle.walk.specs.declared.Slot.{Slot}
 use Rattle.walk.specs.declared.Slot.the-variants.{Silent, Clashed, Clean}
-use Rattle.walk.specs.declared.Heard.{Heard}
 use Rattle.walk.specs.Marks.{deepest, withMark}
 use Rattle.walk.specs.Record.{places, mostRounds, isRunning, isAccepted, remade, ended, counted, marked, opened}
 use Rattle.walk.specs.Hear.{judged, endsAtOnce, noted, listNoted, turned, passed, walkAfter, listAfter, After, refusal, hearing, Hears}
 use Rattle.walk.proofs.Levels.{deepest-set}
-use Rattle.walk.proofs.Limits.{Accepted, accepted-of-is-accepted}
+use Rattle.walk.proofs.Limits.{accepted-of-is-accepted}
 
 -- ---- a slot that ends nothing at once
 

@@ -1,6 +1,6 @@
 -- Laws of the clash marks: a level's number stays within sixteen bits, the lowest mark is one of sixteen slots, and a store at one level
 -- moves the deepest no further than that level. By the bits below and above a slot, and by induction over slots and levels. Assumes nothing.
-use mathlib.Core.Path.{_≡_, refl, sym, ap, _∙_}
+use mathlib.Core.Path.{_≡_, sym, ap, _∙_}
 use mathlib.Core.Bool.{Bool, true, false, cond}
 use mathlib.Core.List.{List}
 use Prim.Native.Nat.{ℕ, zero, suc, _+_, _-_, _*_, _/_, _%_, _^_, _≤_, _<_}
@@ -10,7 +10,7 @@ use native.Mathlib.Omega.{arith}
 use borrow.Author.Tests.{eqb-true, eqb-false, eq-eqb, ne-eqb}
 use lib.Dec.{eqb}
 use lib.ListN.{getD, set}
-use lib.Pow.{pow-pos, pow-lt, pow-add, shl-exact, shr-lt, split}
+use lib.Pow.{pow-pos, pow-add, shl-exact, shr-lt, split}
 use lib.Seq.{getD-set-other}
 use Rattle.walk.specs.Marks.{levels, waits, lowestFrom, lowest, deepestOf, deepest}
 

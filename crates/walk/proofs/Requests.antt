@@ -1,9 +1,9 @@
 -- A round's request put together at the start of a buffer: its head, its mask, its check; and its length.
 -- By the laws of `over` and `placed`. Assumes nothing.
-use mathlib.Core.Path.{_≡_, refl, sym, ap, _∙_}
+use mathlib.Core.Path.{_≡_, sym, ap, _∙_}
 use mathlib.Core.Bool.{Bool, true, false, cond}
 use mathlib.Core.List.{List, [], _∷_, _++_}
-use Prim.Native.Nat.{ℕ, suc, _+_, _*_, _≤_, _<_}
+use Prim.Native.Nat.{ℕ, _+_, _*_, _≤_, _<_}
 use native.Mathlib.Omega.{arith}
 use borrow.Author.Tests.{lt-ltb, le-ltb}
 use lib.IntN.{ℤ}
@@ -15,7 +15,7 @@ use Rattle.lent.proofs.Over.{sets-placed, placed-start, placed-placed, set-plac
 use Rattle.crc.specs.Check.{checkBytes, sealed}
 use Rattle.crc.proofs.Seal.{length-sealed}
 use Rattle.frames.specs.Field.{fieldBytes, PutsField}
-use Rattle.frames.specs.Frame.{sealLeaves, Seals}
+use Rattle.frames.specs.Frame.{Seals}
 use Rattle.frames.proofs.Fields.{length-field-bytes}
 use Rattle.frames.proofs.Ways.{puts-served, seals-served, placed-check}
 use Rattle.frames.proofs.Unique.{put-field-unique, seal-unique}

@@ -1,6 +1,6 @@
 -- `walk::ask::request_length` meets its contract, by whether there is a family (Requests.antt). Assumes nothing.
 use borrow.Author.Needs.{needs}
-use mathlib.Core.Path.{sym, _∙_}
+use mathlib.Core.Path.{sym}
 use native.Mathlib.Omega.{arith}
 use Rattle.walk.specs.Record.{maskLength}
 use Rattle.walk.proofs.Requests.{mask-bytes-most, length-with-family, length-no-family}

@@ -1,8 +1,6 @@
 -- `walk::hear::take` meets its contract: ended at once, or noted and passed (HearWays.antt). Assumes nothing.
 use borrow.Author.Needs.{needs}
 use mathlib.Core.Path.{sym, _∙_}
-use Prim.Native.Nat.{_<_}
-use Rattle.walk.specs.Marks.{deepest}
 use Rattle.walk.proofs.HearWays.{noted-deepest, after-ending, after-passing}
 use Rattle.walk.proofs.hear.take.Statement.{statement}
 use Rattle.walk.proofs.hear.take.Tie as tie

@@ -1,6 +1,6 @@
 -- `walk::marks::deepest` meets its contract. The loop's invariant: the deepest of the first n levels is the deepest of all. Assumes nothing.
 use mathlib.Core.Path.{_≡_, refl, sym, _∙_}
-use Prim.Native.Nat.{ℕ, _≤_}
+use Prim.Native.Nat.{_≤_}
 use native.Mathlib.Omega.{arith}
 use Rattle.walk.specs.Marks.{levels, deepestOf, deepest}
 use Rattle.walk.proofs.Levels.{deepest-here, deepest-before}

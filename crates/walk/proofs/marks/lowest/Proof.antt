@@ -1,6 +1,6 @@
 -- `walk::marks::lowest` meets its contract. The loop's invariant: the lowest from here on is the lowest of all. Assumes nothing.
 use mathlib.Core.Path.{_≡_, refl, sym, _∙_}
-use Prim.Native.Nat.{ℕ, _-_, _≤_}
+use Prim.Native.Nat.{_-_, _≤_}
 use native.Mathlib.Omega.{arith}
 use Rattle.walk.specs.Marks.{lowestFrom, lowest}
 use Rattle.walk.proofs.Levels.{lowest-here, lowest-next}

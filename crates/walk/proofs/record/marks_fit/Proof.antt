@@ -1,7 +1,6 @@
 -- `walk::record::marks_fit` meets its contract: the definition goes by the same two tests. Assumes nothing.
 use borrow.Author.Needs.{needs}
 use borrow.Author.Tests.{le-leb, lt-leb}
-use Prim.Native.Nat.{_+_}
 use Rattle.walk.specs.Marks.{levels}
 use Rattle.walk.specs.Record.{marksFit}
 use Rattle.walk.proofs.record.marks_fit.Statement.{statement}
