@@ -63,28 +63,29 @@ pub lowest-is-slot : (m : ℕ) → lowest m < 16
 unfolding lowest
 lowest-is-slot m = omega (arith, lowest-from-most m 0 15)
 
--- it is this slot, or else among those after it
-pub lowest-here : (m s : ℕ) → s < 15 → waits m s ≡ true → lowestFrom m s (15 - s) ≡ s
+-- with so many slots left before the last: it is this slot, or else among those after it
+pub lowest-here : (m left : ℕ) → 0 < left → waits m (15 - left) ≡ true → lowestFrom m (15 - left) left ≡ 15 - left
 unfolding lowestFrom
-lowest-here m s h e =
-    let more : 15 - s ≡ suc (14 - s) = omega arith in
-    rw (more, e)
+lowest-here m left h e =
+    let one : left ≡ suc (left - 1) = omega arith in
+    ap (λ (n : ℕ). lowestFrom m (15 - left) n) one ∙ rw e
 
-pub lowest-next : (m s : ℕ) → s < 15 → waits m s ≡ false → lowestFrom m s (15 - s) ≡ lowestFrom m (s + 1) (15 - (s + 1))
+pub lowest-next : (m left : ℕ) → 0 < left → left ≤ 15 → waits m (15 - left) ≡ false
+    → lowestFrom m (15 - left) left ≡ lowestFrom m (15 - (left - 1)) (left - 1)
 unfolding lowestFrom
-lowest-next m s h e =
-    let more : 15 - s ≡ suc (15 - (s + 1)) = omega arith in
-    let next : s + 1 ≡ suc s = omega arith in
-    rw (more, e, next)
+lowest-next m left h k e =
+    let one : left ≡ suc (left - 1) = omega arith in
+    let next : suc (15 - left) ≡ 15 - (left - 1) = omega arith in
+    ap (λ (n : ℕ). lowestFrom m (15 - left) n) one ∙ rw (e, next)
 
 -- ---- the deepest level
 
 -- it is this level, or else among those before it
-pub deepest-here : (marks : List ℕ) (n : ℕ) → 0 < n → (getD marks (n - 1) 0 ≡ 0 → ⊥) → deepestOf marks n ≡ n
+pub deepest-here : (marks : List ℕ) (n : ℕ) → 0 < n → (getD marks (n - 1) 0 ≡ 0 → ⊥) → deepestOf marks n ≡ n - 1 + 1
 unfolding deepestOf
 deepest-here marks n h e =
     let one : n ≡ suc (n - 1) = omega arith in
-    ap (λ (k : ℕ). deepestOf marks k) one ∙ rw (ne-eqb (getD marks (n - 1) 0) 0 e) (sym one)
+    ap (λ (k : ℕ). deepestOf marks k) one ∙ rw (ne-eqb (getD marks (n - 1) 0) 0 e) (omega arith)
 
 pub deepest-before : (marks : List ℕ) (n : ℕ) → 0 < n → getD marks (n - 1) 0 ≡ 0 → deepestOf marks n ≡ deepestOf marks (n - 1)
 unfolding deepestOf

@@ -57,9 +57,12 @@ is-accepted-of-accepted w a =
       lt-ltb (deepest (w .marks)) 16 (a .last-level),
     )
 
--- a digit above 14 digits at the most is within 64 bits
-pub unit-most : (j : ℕ) → j < 15 → 16 * 2 ^ (4 * j) ≤ 2 ^ 60
-unit-most j h = rw (← pow-add 2 4 (4 * j)) (pow-mono {i = 4 + 4 * j} {j = 60} (omega arith))
+-- the digit above 14 digits at the most is within 60 bits, and so is what stands below it
+pub unit-most : (j : ℕ) → j < 15 → 2 ^ (4 * j) ≤ 2 ^ 56
+unit-most j h = pow-mono {i = 4 * j} {j = 56} (omega arith)
+
+pub low-digits-most : (v j : ℕ) → j < 15 → v % 2 ^ (4 * j) < 2 ^ 56
+low-digits-most v j h = omega (arith, mod-lt v (pow-pos (4 * j)), unit-most j h)
 
 pub digit-most : (p s : ℕ) → s < 16 → s * p ≤ 15 * p
 digit-most p s h = mul-le-mul-right p (omega arith)

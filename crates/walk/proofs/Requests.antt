@@ -5,7 +5,7 @@ use mathlib.Core.Bool.{Bool, true, false, cond}
 use mathlib.Core.List.{List, [], _∷_, _++_}
 use Prim.Native.Nat.{ℕ, _+_, _*_, _≤_, _<_}
 use native.Mathlib.Omega.{arith}
-use borrow.Author.Tests.{lt-ltb, le-ltb}
+use borrow.Author.Tests.{ltb-true}
 use lib.IntN.{ℤ}
 use lib.ListN.{length, take, set, length-append, length-set}
 use lib.Seq.{sets, set-comm, append-snoc}
@@ -34,23 +34,27 @@ length-puts {s} {e} puts h = ap length (puts .leaves) ∙ length-over s e h
 sets-over : (s e : List ℕ) → length s ≤ length e → sets e 0 s ≡ over s e
 sets-over s e h = sets-placed 0 s e (omega arith) ∙ placed-start s e
 
-pub puts-family : (w : Walk) (e : List ℕ) → w .family < 256 → 3 ≤ length e
+pub family-is-byte : (w : Walk) → hasFamily w ≡ true → w .family < 256
+unfolding hasFamily
+family-is-byte w e = ltb-true (w .family) 256 e
+
+pub puts-family : (w : Walk) (e : List ℕ) → hasFamily w ≡ true → 3 ≤ length e
     → Puts (requestHead w) e 3 (set (set (set e 1 0x01) 0 0x16) 2 (w .family))
-unfolding requestHead hasFamily
+unfolding requestHead
 puts-family w e h k =
     let order : set (set e 1 0x01) 0 0x16 ≡ set (set e 0 0x16) 1 0x01 = set-comm e 1 0 0x01 0x16 (λ i. omega arith) in
     record {
-      count = rw (lt-ltb (w .family) 256 h);
-      leaves = rw (lt-ltb (w .family) 256 h, order) (sets-over (0x16 ∷ 0x01 ∷ w .family ∷ []) e k);
+      count = rw h;
+      leaves = rw (h, order) (sets-over (0x16 ∷ 0x01 ∷ w .family ∷ []) e k);
     }
 
-pub puts-no-family : (w : Walk) (e : List ℕ) → 256 ≤ w .family → 3 ≤ length e → Puts (requestHead w) e 2 (set (set e 1 0x01) 0 0x06)
-unfolding requestHead hasFamily
+pub puts-no-family : (w : Walk) (e : List ℕ) → hasFamily w ≡ false → 3 ≤ length e → Puts (requestHead w) e 2 (set (set e 1 0x01) 0 0x06)
+unfolding requestHead
 puts-no-family w e h k =
     let order : set (set e 1 0x01) 0 0x06 ≡ set (set e 0 0x06) 1 0x01 = set-comm e 1 0 0x01 0x06 (λ i. omega arith) in
     record {
-      count = rw (le-ltb (w .family) 256 h);
-      leaves = rw (le-ltb (w .family) 256 h, order) (sets-over (0x06 ∷ 0x01 ∷ []) e (omega arith));
+      count = rw h;
+      leaves = rw (h, order) (sets-over (0x06 ∷ 0x01 ∷ []) e (omega arith));
     }
 
 -- ---- lengths
@@ -81,13 +85,13 @@ pub length-request-most : (w : Walk) → w .level < 16 → length (request w) �
 unfolding maskLength
 length-request-most w h = omega (arith, length-request w, length-head-most w, mask-bytes-most (w .level) h)
 
-pub length-with-family : (w : Walk) → w .family < 256 → length (request w) ≡ maskBytes (maskLength (w .level)) + 6
-unfolding requestHead hasFamily
-length-with-family w h = length-request w ∙ rw (lt-ltb (w .family) 256 h) (omega arith)
+pub length-with-family : (w : Walk) → hasFamily w ≡ true → length (request w) ≡ maskBytes (maskLength (w .level)) + 6
+unfolding requestHead
+length-with-family w h = length-request w ∙ rw h (omega arith)
 
-pub length-no-family : (w : Walk) → 256 ≤ w .family → length (request w) ≡ maskBytes (maskLength (w .level)) + 5
-unfolding requestHead hasFamily
-length-no-family w h = length-request w ∙ rw (le-ltb (w .family) 256 h) (omega arith)
+pub length-no-family : (w : Walk) → hasFamily w ≡ false → length (request w) ≡ maskBytes (maskLength (w .level)) + 5
+unfolding requestHead
+length-no-family w h = length-request w ∙ rw h (omega arith)
 
 -- ---- the whole request
 

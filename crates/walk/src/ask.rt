@@ -4,11 +4,20 @@ ghost use mathlib.Core.Bool.{true};
 ghost use Prim.Native.Nat.{_<_, _≤_};
 ghost use lib.ListN.{length};
 ghost use Rattle.lent.specs.Puts.{Puts};
-ghost use Rattle.walk.specs.Record.{isAccepted};
+ghost use Rattle.walk.specs.Record.{hasFamily, isAccepted};
 ghost use Rattle.walk.specs.Ask.{requestHead, request, sent, roomAsked, roomAfter, refusal, asking, Asks};
 use crate::Asked;
 use crate::Send;
 use crate::Walk;
+
+fn has_family(walk: Walk) -> bool
+    ensures { λ r. ⌜ r ≡ hasFamily walk ⌝ }
+{
+    if 256 <= walk.family {
+        return false;
+    }
+    true
+}
 
 // Flags and command, with the family if there is one. Returns the place after them.
 fn put_head(walk: Walk, room: &mut [u8]) -> usize
@@ -16,7 +25,7 @@ fn put_head(walk: Walk, room: &mut [u8]) -> usize
     ensures { λ r. ⌜ Puts (requestHead walk) (now (room .entry)) r (now (room .exit)) ⌝ }
 {
     room[1] = 0x01;
-    if walk.family < 256 {
+    if has_family(walk) {
         room[0] = 0x16;
         room[2] = walk.family as u8;
         return 3;
@@ -46,7 +55,7 @@ fn request_length(walk: Walk) -> usize
     ensures { λ r. ⌜ r ≡ length (request walk) ⌝ }
 {
     let bytes = slots::mask_bytes(4 * walk.level);
-    if walk.family < 256 {
+    if has_family(walk) {
         bytes + 6
     } else {
         bytes + 5

@@ -36,12 +36,13 @@ pub(crate) fn without_mark(m: u16, s: u8) -> u16
 pub(crate) fn lowest(m: u16) -> u8
     ensures { λ r. ⌜ r ≡ lowest m ⌝ }
 {
-    let mut s = 0;
-    while s < 15 {
+    let mut left = 15;
+    while 0 < left {
+        let s = 15 - left;
         if waits(m, s) {
             return s;
         }
-        s += 1;
+        left -= 1;
     }
     15
 }
@@ -52,8 +53,9 @@ pub(crate) fn deepest(marks: [u16; 16]) -> usize
 {
     let mut n = 16;
     while 0 < n {
-        if marks[n - 1] != 0 {
-            return n;
+        let level = n - 1;
+        if marks[level] != 0 {
+            return level + 1;
         }
         n -= 1;
     }

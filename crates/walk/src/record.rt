@@ -1,7 +1,7 @@
 // The walk's record: which ones are accepted, and each way in which it changes.
 ghost use mathlib.Core.Path.{_≡_};
-ghost use Prim.Native.Nat.{_<_};
-ghost use Rattle.walk.specs.Record.{marksFit, isAccepted, remade, ended, counted, marked, atNextSlot, openedMask, opened, started};
+ghost use Prim.Native.Nat.{_^_, _≤_, _<_};
+ghost use Rattle.walk.specs.Record.{maskLength, marksFit, isAccepted, remade, ended, counted, marked, atNextSlot, openedMask, opened, started};
 use crate::Walk;
 use crate::marks::deepest;
 use crate::marks::lowest;
@@ -18,14 +18,22 @@ fn marks_fit(marks: [u16; 16], level: u8) -> bool
     n < 16
 }
 
+// The unit of the digit above j digits.
+fn unit(j: u8) -> u64
+    requires { ⌜ j < 15 ⌝ }
+    ensures { λ r. ⌜ r ≡ 2 ^ maskLength j ⌝ }
+    ensures { λ r. ⌜ r ≤ 2 ^ 56 ⌝ }
+{
+    1u64 << (4 * j)
+}
+
 // The mask of slot s of level j, which has j digits.
 fn opened_mask(mask: u64, j: u8, s: u8) -> u64
     requires { ⌜ j < 15 ⌝ }
     requires { ⌜ s < 16 ⌝ }
     ensures { λ r. ⌜ r ≡ openedMask mask j s ⌝ }
 {
-    let unit = 1u64 << (4 * j);
-    slots::low_bits(mask, 4 * j) + (s as u64) * unit
+    slots::low_bits(mask, 4 * j) + (s as u64) * unit(j)
 }
 
 impl Walk {

@@ -1,19 +1,23 @@
 -- `walk::ask::put_head` meets its contract: straight-line stores (Requests.antt). Assumes nothing.
 use borrow.Author.Needs.{needs}
+use mathlib.Core.Path.{sym, _∙_}
 use native.Mathlib.Omega.{arith}
 use lib.ListN.{length-set}
-use Rattle.walk.proofs.Requests.{puts-family, puts-no-family}
+use Rattle.walk.proofs.Requests.{family-is-byte, puts-family, puts-no-family}
 use Rattle.walk.proofs.ask.put_head.Statement.{statement}
 use Rattle.walk.proofs.ask.put_head.Tie as tie
 
 slice-write-room : tie.Need-slice-write-room
 slice-write-room c = search needs
 
+has-family-requires : tie.Need-has-family-requires
+has-family-requires c κs = search needs
+
 slice-write-room-2 : tie.Need-slice-write-room-2
 slice-write-room-2 c = rw length-set (omega arith)
 
 cast-room : tie.Need-cast-room
-cast-room c = search needs
+cast-room c = omega (arith, family-is-byte (c .before .before .before .before .args .walk) (sym (c .before .before .has-family .ensures) ∙ c .before .if1 .taken))
 
 slice-write-room-3 : tie.Need-slice-write-room-3
 slice-write-room-3 c = search needs
@@ -22,7 +26,7 @@ same-length : tie.Need-same-length
 same-length c = search needs
 
 returns : tie.Need-returns
-returns c = puts-family _ _ (c .before .if1 .taken) (c .before .before .before .pre)
+returns c = puts-family _ _ (sym (c .before .before .has-family .ensures) ∙ c .before .if1 .taken) (c .before .before .before .before .pre)
 
 slice-write-room-4 : tie.Need-slice-write-room-4
 slice-write-room-4 c = rw length-set (omega arith)
@@ -31,13 +35,14 @@ same-length-2 : tie.Need-same-length-2
 same-length-2 c = search needs
 
 returns-2 : tie.Need-returns-2
-returns-2 c = puts-no-family _ _ (c .if1 .left) (c .before .before .pre)
+returns-2 c = puts-no-family _ _ (sym (c .before .has-family .ensures) ∙ c .if1 .left) (c .before .before .before .pre)
 
 pub put-head-spec : {M : Type 1} → statement M
 put-head-spec =
     tie.close
     (tie.spec
     slice-write-room
+    has-family-requires
     slice-write-room-2
     cast-room
     slice-write-room-3

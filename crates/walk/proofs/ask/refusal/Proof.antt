@@ -33,7 +33,7 @@ returns-4 : tie.Need-returns-4
 returns-4 c =
     let args = c .before .before .before .before .before .before .before .args in
     let accepted = sym (c .before .before .before .before .before .before .is-accepted .ensures) ∙ not-false (c .before .before .before .before .before .before .is-accepted .result) (c .before .before .before .before .before .if1 .left) in
-    sym (request-short (args .walk) (args .room) accepted (c .before .before .before .if2 .left) (c .before .if3 .left) (c .if4 .taken))
+    sym (request-short (args .walk) (args .room) accepted (c .before .before .before .if2 .left) (c .before .if3 .left) (omega (arith, c .if4 .taken)))
 
 returns-5 : tie.Need-returns-5
 unfolding roomAsked
@@ -41,7 +41,7 @@ returns-5 c =
     let args = c .before .before .before .before .before .before .before .args in
     let accepted = sym (c .before .before .before .before .before .before .is-accepted .ensures) ∙ not-false (c .before .before .before .before .before .before .is-accepted .result) (c .before .before .before .before .before .if1 .left) in
     let is-request = sent-request (args .walk) _ (c .before .before .before .if2 .left) (c .before .if3 .left) refl in
-    sym (none-short (args .walk) (args .room) accepted (rw is-request (c .if4 .left)))
+    sym (none-short (args .walk) (args .room) accepted (rw is-request (omega (arith, c .if4 .left))))
 
 pub refusal-spec : {M : Type 1} → statement M
 refusal-spec =

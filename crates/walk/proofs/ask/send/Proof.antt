@@ -1,6 +1,7 @@
 -- `walk::ask::send` meets its contract: the definition goes by the same two tests. Assumes nothing.
 use borrow.Author.Needs.{needs}
 use mathlib.Core.Path.{sym}
+use native.Mathlib.Omega.{arith}
 use Rattle.walk.proofs.AskWays.{sent-nothing, sent-request, sent-mark}
 use Rattle.walk.proofs.ask.send.Statement.{statement}
 use Rattle.walk.proofs.ask.send.Tie as tie
@@ -12,7 +13,7 @@ request-length-requires : tie.Need-request-length-requires
 request-length-requires c κs = search needs
 
 returns-2 : tie.Need-returns-2
-returns-2 c = sym (sent-request _ _ (c .before .before .before .if1 .left) (c .before .if2 .taken) (c .request-length .ensures))
+returns-2 c = sym (sent-request (c .before .before .before .before .before .args .walk) _ (c .before .before .before .if1 .left) (omega (arith, c .before .if2 .taken)) (c .request-length .ensures))
 
 returns-3 : tie.Need-returns-3
 returns-3 c = sym (sent-mark _ (c .before .before .if1 .left) (c .if2 .left))

@@ -1,6 +1,7 @@
 -- `walk::hear::ends_at_once` meets its contract, by the slot; the definition goes by the same tests. Assumes nothing.
 use borrow.Author.Needs.{needs}
 use borrow.Author.Tests.{lt-ltb, le-ltb}
+use native.Mathlib.Omega.{arith}
 use Rattle.walk.specs.Record.{places}
 use Rattle.walk.specs.Hear.{endsAtOnce}
 use Rattle.walk.proofs.hear.ends_at_once.Statement.{statement}
@@ -21,19 +22,19 @@ returns c = rw (c .enum-told .given .1)
 
 returns-2 : tie.Need-returns-2
 unfolding endsAtOnce places
-returns-2 c = rw (c .before .before .enum-told2 .given .1, lt-ltb _ _ (c .if1 .taken))
+returns-2 c = rw (c .before .before .enum-told2 .given .1, lt-ltb (c .before .before .before .before .args .walk .level) 15 (omega (arith, c .if1 .taken)))
 
 returns-3 : tie.Need-returns-3
 unfolding endsAtOnce places
-returns-3 c = rw (c .before .before .enum-told2 .given .1, le-ltb _ _ (c .if1 .left))
+returns-3 c = rw (c .before .before .enum-told2 .given .1, le-ltb (c .before .before .before .before .args .walk .level) 15 (omega (arith, c .if1 .left)))
 
 returns-4 : tie.Need-returns-4
 unfolding endsAtOnce places
-returns-4 c = rw (c .before .before .enum-told3 .given .1, lt-ltb _ _ (c .if2 .taken))
+returns-4 c = rw (c .before .before .enum-told3 .given .1, lt-ltb (c .before .before .before .before .args .walk .count) 64 (omega (arith, c .if2 .taken)))
 
 returns-5 : tie.Need-returns-5
 unfolding endsAtOnce places
-returns-5 c = rw (c .before .before .enum-told3 .given .1, le-ltb _ _ (c .if2 .left))
+returns-5 c = rw (c .before .before .enum-told3 .given .1, le-ltb (c .before .before .before .before .args .walk .count) 64 (omega (arith, c .if2 .left)))
 
 pub ends-at-once-spec : {M : Type 1} → statement M
 ends-at-once-spec =

@@ -17,14 +17,17 @@ loop-holds : tie.Need-loop-holds Inv-loop μ-loop
 unfolding levels deepest
 loop-holds c = (omega arith, refl)
 
-sub-if1 : tie.Need-sub-if1 Inv-loop μ-loop
-sub-if1 c = omega arith
+sub-level : tie.Need-sub-level Inv-loop μ-loop
+sub-level c = omega arith
 
 mul-if1 : tie.Need-mul-if1 Inv-loop μ-loop
 mul-if1 c = omega arith
 
 array-read-if1 : tie.Need-array-read-if1 Inv-loop μ-loop
 array-read-if1 c = omega arith
+
+add-result : tie.Need-add-result Inv-loop μ-loop
+add-result c = omega arith
 
 returns : tie.Need-returns Inv-loop μ-loop
 returns c = sym (deepest-here _ _ (c .before .loop-test .taken) (c .if1 .taken)) ∙ c .before .before .loop .inv .1
@@ -51,9 +54,10 @@ deepest-spec =
     Inv-loop
     μ-loop
     loop-holds
-    sub-if1
+    sub-level
     mul-if1
     array-read-if1
+    add-result
     returns
     sub-n
     loop-less

@@ -1,4 +1,5 @@
--- `walk::marks::lowest` meets its contract. The loop's invariant: the lowest from here on is the lowest of all. Assumes nothing.
+-- `walk::marks::lowest` meets its contract. The loop's invariant: the lowest of the slots that are left is the lowest of all.
+-- Assumes nothing.
 use mathlib.Core.Path.{_≡_, refl, sym, _∙_}
 use Prim.Native.Nat.{_-_, _≤_}
 use native.Mathlib.Omega.{arith}
@@ -8,14 +9,17 @@ use Rattle.walk.proofs.marks.lowest.Statement.{statement}
 use Rattle.walk.proofs.marks.lowest.Tie as tie
 
 abbrev Inv-loop : tie.InvT-loop
-Inv-loop m s₀ s = (s ≤ 15) × (lowestFrom m s (15 - s) ≡ lowest m)
+Inv-loop m left₀ left = (left ≤ 15) × (lowestFrom m (15 - left) left ≡ lowest m)
 
 abbrev μ-loop : tie.MeasureT-loop
-μ-loop m s₀ s = 15 - s
+μ-loop m left₀ left = left
 
 loop-holds : tie.Need-loop-holds Inv-loop μ-loop
 unfolding lowest
 loop-holds c = (omega arith, refl)
+
+sub-s : tie.Need-sub-s Inv-loop μ-loop
+sub-s c = omega arith
 
 waits-requires : tie.Need-waits-requires Inv-loop μ-loop
 waits-requires c κs = omega arith
@@ -23,20 +27,20 @@ waits-requires c κs = omega arith
 returns : tie.Need-returns Inv-loop μ-loop
 returns c = sym (lowest-here _ _ (c .before .before .loop-test .taken) (sym (c .before .waits .ensures) ∙ c .if1 .taken)) ∙ c .before .before .before .loop .inv .1
 
-add-s : tie.Need-add-s Inv-loop μ-loop
-add-s c = omega arith
+sub-left : tie.Need-sub-left Inv-loop μ-loop
+sub-left c = omega arith
 
 loop-less : tie.Need-loop-less Inv-loop μ-loop
 loop-less c = omega arith
 
 loop-again : tie.Need-loop-again Inv-loop μ-loop
-loop-again c = (omega arith, sym (lowest-next _ _ (c .before .before .loop-test .taken) (sym (c .before .waits .ensures) ∙ c .if1 .left)) ∙ c .before .before .before .loop .inv .1)
+loop-again c = (omega arith, sym (lowest-next _ _ (c .before .before .loop-test .taken) (c .before .before .before .loop .inv .0) (sym (c .before .waits .ensures) ∙ c .if1 .left)) ∙ c .before .before .before .loop .inv .1)
 
 returns-2 : tie.Need-returns-2 Inv-loop μ-loop
 unfolding lowestFrom
 returns-2 c =
-    let past : c .before .loop .s ≡ 15 = omega arith in
-    rw past at (c .before .loop .inv .1)
+    let none : c .before .loop .left ≡ 0 = omega arith in
+    rw none at (c .before .loop .inv .1)
 
 pub lowest-spec : {M : Type 1} → statement M
 lowest-spec =
@@ -45,9 +49,10 @@ lowest-spec =
     Inv-loop
     μ-loop
     loop-holds
+    sub-s
     waits-requires
     returns
-    add-s
+    sub-left
     loop-less
     loop-again
     returns-2)
