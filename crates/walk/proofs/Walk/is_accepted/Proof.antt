@@ -53,7 +53,7 @@ returns-5 c =
     let fourth = c .before .before .if4 in
     let fifth = c .if5 in
     let one : 1 ≤ w .rounds = omega (arith, fourth .left) in
-    rw (lt-ltb (w .level) 16 (first .left), le-leb (w .slot) 15 (second .left), le-leb (w .count) 64 (third .left), le-leb 1 (w .rounds) one, lt-leb (w .rounds) 481 (fifth .taken))
+    rw (lt-ltb (w .level) 16 (first .left), le-leb (w .slot) 15 (second .left), le-leb (w .count) 64 (third .left), le-leb 1 (w .rounds) one, lt-leb (w .rounds) 481 (omega (arith, fifth .taken)))
 
 mul-is-below : tie.Need-mul-is-below
 mul-is-below c = search needs
@@ -72,7 +72,7 @@ returns-6 c =
     let fifth = c .before .before .before .if5 in
     let one : 1 ≤ w .rounds = omega (arith, fourth .left) in
     let is-below = c .before .is-below in
-    rw (lt-ltb (w .level) 16 (first .left), le-leb (w .slot) 15 (second .left), le-leb (w .count) 64 (third .left), le-leb 1 (w .rounds) one, le-leb (w .rounds) 481 (fifth .left), ← (is-below .ensures), not-true (is-below .result) (c .if6 .taken))
+    rw (lt-ltb (w .level) 16 (first .left), le-leb (w .slot) 15 (second .left), le-leb (w .count) 64 (third .left), le-leb 1 (w .rounds) one, le-leb (w .rounds) 481 (omega (arith, fifth .left)), ← (is-below .ensures), not-true (is-below .result) (c .if6 .taken))
 
 marks-fit-requires : tie.Need-marks-fit-requires
 marks-fit-requires c κs = search needs
@@ -88,7 +88,7 @@ returns-7 c =
     let fifth = c .before .before .before .before .if5 in
     let one : 1 ≤ w .rounds = omega (arith, fourth .left) in
     let is-below = c .before .before .is-below in
-    rw (lt-ltb (w .level) 16 (first .left), le-leb (w .slot) 15 (second .left), le-leb (w .count) 64 (third .left), le-leb 1 (w .rounds) one, le-leb (w .rounds) 481 (fifth .left), ← (is-below .ensures), not-false (is-below .result) (c .before .if6 .left), c .marks-fit .ensures)
+    rw (lt-ltb (w .level) 16 (first .left), le-leb (w .slot) 15 (second .left), le-leb (w .count) 64 (third .left), le-leb 1 (w .rounds) one, le-leb (w .rounds) 481 (omega (arith, fifth .left)), ← (is-below .ensures), not-false (is-below .result) (c .before .if6 .left), c .marks-fit .ensures)
 
 pub is-accepted-spec : {M : Type 1} → statement M
 is-accepted-spec =
