@@ -11,7 +11,8 @@ use Rattle.walk.specs.declared.Walk.{Walk}
 use Rattle.walk.specs.declared.Slot.{Slot}
 use Rattle.walk.specs.declared.Slot.the-variants.{Silent, Clashed, Clean}
 use Rattle.walk.specs.Marks.{levels, deepestOf, deepest, withMark, withoutMark, lowest}
-use Rattle.walk.specs.Record.{places, mostRounds, maskLength, marksFit, isAccepted, remade, ended, counted, marked, atNextSlot, openedAt, opened, noMarks, started}
+use Rattle.walk.specs.Record.{places, mostRounds, maskLength, marksFit, isAccepted}
+use Rattle.walk.specs.Record.{remade, ended, counted, marked, atNextSlot, openedAt, opened, noMarks, started}
 use Rattle.walk.specs.Hear.{endsAtOnce, noted, turned, passed, walkAfter}
 use Rattle.walk.proofs.Levels.{lowest-is-slot, deepest-set}
 use Rattle.walk.proofs.Limits.{Accepted, accepted-of-is-accepted, is-accepted-of-accepted, opened-mask-fits}

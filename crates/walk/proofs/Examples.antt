@@ -11,8 +11,8 @@ use Rattle.walk.specs.declared.Walk.{Walk}
 use Rattle.walk.specs.declared.Kind.the-variants.{Silence}
 use Rattle.walk.specs.declared.Slot.the-variants.{Silent, Clashed, Clean}
 use Rattle.walk.specs.Marks.{levels, deepestOf, deepest}
-use Rattle.walk.specs.Record.{places, mostRounds, maskLength, complete, twins, full, overrun, isRunning, marksFit, isAccepted, remade, ended, counted, marked}
-use Rattle.walk.specs.Record.{atNextSlot, opened, noMarks, started}
+use Rattle.walk.specs.Record.{places, mostRounds, maskLength, complete, twins, full, overrun, isRunning, marksFit, isAccepted}
+use Rattle.walk.specs.Record.{remade, ended, counted, marked, atNextSlot, opened, noMarks, started}
 use Rattle.walk.specs.Hear.{judged, endsAtOnce, noted, listNoted, turned, passed, walkAfter, listAfter, refusal, Hearing, hearing}
 
 -- n silent slots heard one after another, with a list
@@ -39,24 +39,30 @@ pub record Walks : Type 0 where
   pub level-14-marked : (w : Walk) → w .level ≡ 14 → walkAfter w Clashed ≡ passed (marked w)
   pub level-15-twins : (w : Walk) → w .level ≡ 15 → walkAfter w Clashed ≡ ended twins w
 
--- one silent slot of the first round
+-- the slots of the first round
+slot-accepted : (family slot : ℕ) → slot ≤ 15 → isAccepted (atSlot family slot 0) ≡ true
+unfolding isAccepted marksFit deepest deepestOf noMarks levels places mostRounds maskLength
+slot-accepted family slot h = rw (le-leb slot 15 h)
+
+-- one silent slot
 silent-next : (family slot : ℕ) (list : List ℕ) → 64 ≤ length list → slot < 15
     → hearing (atSlot family slot 0) Silence [] list ≡ record { walk = atSlot family (suc slot) 0; list = list; number = 0 }
-unfolding hearing refusal isAccepted isRunning marksFit deepest deepestOf noMarks levels places mostRounds maskLength judged endsAtOnce walkAfter listAfter noted listNoted passed atNextSlot remade
+unfolding hearing refusal places isRunning judged endsAtOnce walkAfter listAfter noted listNoted passed atNextSlot remade
 silent-next family slot list h k =
-    rw (le-leb slot 15 (omega arith), le-leb 64 (length list) h, lt-ltb slot 15 k, add-one slot)
+    rw (slot-accepted family slot (omega arith), le-leb 64 (length list) h, lt-ltb slot 15 k, add-one slot)
 
 silent-last : (family : ℕ) (list : List ℕ) → 64 ≤ length list
     → hearing (atSlot family 15 0) Silence [] list ≡ record { walk = atSlot family 15 complete; list = list; number = 0 }
-unfolding hearing refusal isAccepted isRunning marksFit deepest deepestOf noMarks levels places mostRounds maskLength judged endsAtOnce walkAfter listAfter noted listNoted passed turned ended remade
-silent-last family list h = rw (le-leb 64 (length list) h)
+unfolding hearing refusal places isRunning judged endsAtOnce walkAfter listAfter noted listNoted passed turned deepest deepestOf noMarks levels ended remade
+silent-last family list h = rw (slot-accepted family 15 (omega arith), le-leb 64 (length list) h)
 
 silent-slots : (family n : ℕ) (list : List ℕ) → 64 ≤ length list → n ≤ 15
     → silentSlots n (started family) list ≡ record { walk = atSlot family n 0; list = list; number = 0 }
 unfolding silentSlots started
 silent-slots family zero list h k = refl
 silent-slots family (suc n) list h k =
-    ap (λ (x : Hearing). hearing (x .walk) Silence [] (x .list)) (silent-slots family n list h (omega arith)) ∙ silent-next family n list h (omega arith)
+    ap (λ (x : Hearing). hearing (x .walk) Silence [] (x .list)) (silent-slots family n list h (omega arith))
+    ∙ silent-next family n list h (omega arith)
 
 all-silent : (family : ℕ) (list : List ℕ) → 64 ≤ length list
     → silentSlots 16 (started family) list ≡ record { walk = atSlot family 15 complete; list = list; number = 0 }

@@ -102,20 +102,23 @@ deepest-of-most marks (suc n) = go (eqb (getD marks n 0) 0) (deepest-of-most mar
     go true h = omega arith
     go false h = omega arith
 
+-- a bound kept by both ways of a test
+cond-below : (t : Bool) (a b c k : ℕ) → (a ≤ k → b ≤ k) → cond t a c ≤ k → cond t b c ≤ k
+cond-below true a b c k f h = f h
+cond-below false a b c k f h = h
+
 -- a store at a level before k
 deepest-of-set : (marks : List ℕ) (level m k n : ℕ) → level < k → deepestOf marks n ≤ k → deepestOf (set marks level m) n ≤ k
 unfolding deepestOf
 deepest-of-set marks level m k zero h d = omega arith
 deepest-of-set marks level m k (suc n) h d = go (λ e. deepest-of-set marks level m k n h e) (decLt n k)
   where
-    past : (deepestOf marks n ≤ k → deepestOf (set marks level m) n ≤ k) → (t : Bool) → cond t (deepestOf marks n) (suc n) ≤ k → cond t (deepestOf (set marks level m) n) (suc n) ≤ k
-    past before true e = before e
-    past before false e = e
-
     go : (deepestOf marks n ≤ k → deepestOf (set marks level m) n ≤ k) → Dec (n < k)
         → cond (eqb (getD (set marks level m) n 0) 0) (deepestOf (set marks level m) n) (suc n) ≤ k
     go before (yes g) = omega (arith, deepest-of-most (set marks level m) (suc n))
-    go before (no g) = rw (getD-set-other marks level n m 0 (λ e. g (omega arith))) (past before (eqb (getD marks n 0) 0) d)
+    go before (no g) =
+        rw (getD-set-other marks level n m 0 (λ e. g (omega arith)))
+        (cond-below (eqb (getD marks n 0) 0) (deepestOf marks n) (deepestOf (set marks level m) n) (suc n) k before d)
 
 pub deepest-set : (marks : List ℕ) (level m k : ℕ) → level < k → deepest marks ≤ k → deepest (set marks level m) ≤ k
 unfolding levels deepest

@@ -12,19 +12,26 @@ refusal-requires c κs = search needs
 returns : tie.Need-returns
 returns c =
     let args = c .before .before .before .args in
-    asks-refused (args .self) (args .room .now) _ (c .before .refusal .ensures) (c .if1 .taken)
+    let refusal = c .before .refusal in
+    let first = c .if1 in
+    asks-refused (args .self) (args .room .now) _ (refusal .ensures) (first .taken)
 
 send-requires : tie.Need-send-requires
 send-requires c κs =
     let args = c .before .before .before .args in
-    let served = served-of-refusal (args .self) (length (args .room .now)) _ (c .before .refusal .ensures) (c .if1 .left) in
+    let refusal = c .before .refusal in
+    let first = c .if1 in
+    let served = served-of-refusal (args .self) (length (args .room .now)) _ (refusal .ensures) (first .left) in
     accepted-of-is-accepted (args .self) (served .accepted) .level
 
 fill-requires : tie.Need-fill-requires
 fill-requires c κs =
     let args = c .before .before .before .before .before .args in
-    let served = served-of-refusal (args .self) (length (args .room .now)) _ (c .before .before .before .refusal .ensures) (c .before .before .if1 .left) in
-    (served .accepted, rw (c .before .send .ensures) (served .enough))
+    let refusal = c .before .before .before .refusal in
+    let first = c .before .before .if1 in
+    let send = c .before .send in
+    let served = served-of-refusal (args .self) (length (args .room .now)) _ (refusal .ensures) (first .left) in
+    (served .accepted, rw (send .ensures) (served .enough))
 
 same-length : tie.Need-same-length
 same-length c = search needs
@@ -32,7 +39,11 @@ same-length c = search needs
 returns-2 : tie.Need-returns-2
 returns-2 c =
     let args = c .before .before .before .before .before .before .before .before .args in
-    asks-served (args .self) (args .room .now) _ _ _ (c .before .before .before .before .before .before .refusal .ensures) (c .before .before .before .before .before .if1 .left) (c .before .before .before .before .send .ensures) (c .before .before .fill .ensures)
+    let refusal = c .before .before .before .before .before .before .refusal in
+    let first = c .before .before .before .before .before .if1 in
+    let send = c .before .before .before .before .send in
+    let fill = c .before .before .fill in
+    asks-served (args .self) (args .room .now) _ _ _ (refusal .ensures) (first .left) (send .ensures) (fill .ensures)
 
 pub ask-spec : {M : Type 1} → statement M
 ask-spec =

@@ -44,7 +44,12 @@ remade-requires c κs = search needs
 
 returns : tie.Need-returns
 unfolding opened openedAt
-returns c = rw (c .remade .ensures, c .before .before .opened-mask .ensures, c .before .before .before .without-mark .ensures, c .before .before .before .before .lowest .ensures)
+returns c =
+    let remade = c .remade in
+    let opened-mask = c .before .before .opened-mask in
+    let without-mark = c .before .before .before .without-mark in
+    let lowest = c .before .before .before .before .lowest in
+    rw (remade .ensures, opened-mask .ensures, without-mark .ensures, lowest .ensures)
 
 pub opened-spec : {M : Type 1} → statement M
 opened-spec =

@@ -15,7 +15,10 @@ enum-told-3 : tie.Need-enum-told-3
 enum-told-3 c = search needs
 
 put-request-requires : tie.Need-put-request-requires
-put-request-requires c κs = (c .before .before .before .before .pre .0, room-of-request (c .before .enum-told3 .given .1) (c .before .before .before .before .pre .1))
+put-request-requires c κs =
+    let asked = c .before .before .before .before .pre in
+    let enum-told3 = c .before .enum-told3 in
+    (asked .0, room-of-request (enum-told3 .given .1) (asked .1))
 
 returns : tie.Need-returns
 unfolding roomAfter

@@ -17,7 +17,11 @@ slice-write-room-2 : tie.Need-slice-write-room-2
 slice-write-room-2 c = rw length-set (omega arith)
 
 cast-room : tie.Need-cast-room
-cast-room c = omega (arith, family-is-byte (c .before .before .before .before .args .walk) (sym (c .before .before .has-family .ensures) ∙ c .before .if1 .taken))
+cast-room c =
+    let args = c .before .before .before .before .args in
+    let has-family = c .before .before .has-family in
+    let first = c .before .if1 in
+    omega (arith, family-is-byte (args .walk) (sym (has-family .ensures) ∙ first .taken))
 
 slice-write-room-3 : tie.Need-slice-write-room-3
 slice-write-room-3 c = search needs

@@ -19,29 +19,46 @@ returns-2 : tie.Need-returns-2
 unfolding roomAsked
 returns-2 c =
     let args = c .before .before .before .before .args in
-    let accepted = sym (c .before .before .before .is-accepted .ensures) ∙ not-false (c .before .before .before .is-accepted .result) (c .before .before .if1 .left) in
-    sym (none-short (args .walk) (args .room) accepted (rw (sent-nothing (args .walk) (c .if2 .taken)) (omega arith)))
+    let is-accepted = c .before .before .before .is-accepted in
+    let first = c .before .before .if1 in
+    let second = c .if2 in
+    let accepted = sym (is-accepted .ensures) ∙ not-false (is-accepted .result) (first .left) in
+    sym (none-short (args .walk) (args .room) accepted (rw (sent-nothing (args .walk) (second .taken)) (omega arith)))
 
 returns-3 : tie.Need-returns-3
 unfolding roomAsked
 returns-3 c =
     let args = c .before .before .before .before .before .before .args in
-    let accepted = sym (c .before .before .before .before .before .is-accepted .ensures) ∙ not-false (c .before .before .before .before .before .is-accepted .result) (c .before .before .before .before .if1 .left) in
-    sym (none-short (args .walk) (args .room) accepted (rw (sent-mark (args .walk) (c .before .before .if2 .left) (c .if3 .taken)) (omega arith)))
+    let is-accepted = c .before .before .before .before .before .is-accepted in
+    let first = c .before .before .before .before .if1 in
+    let second = c .before .before .if2 in
+    let third = c .if3 in
+    let accepted = sym (is-accepted .ensures) ∙ not-false (is-accepted .result) (first .left) in
+    sym (none-short (args .walk) (args .room) accepted (rw (sent-mark (args .walk) (second .left) (third .taken)) (omega arith)))
 
 returns-4 : tie.Need-returns-4
 returns-4 c =
     let args = c .before .before .before .before .before .before .before .args in
-    let accepted = sym (c .before .before .before .before .before .before .is-accepted .ensures) ∙ not-false (c .before .before .before .before .before .before .is-accepted .result) (c .before .before .before .before .before .if1 .left) in
-    sym (request-short (args .walk) (args .room) accepted (c .before .before .before .if2 .left) (c .before .if3 .left) (omega (arith, c .if4 .taken)))
+    let is-accepted = c .before .before .before .before .before .before .is-accepted in
+    let first = c .before .before .before .before .before .if1 in
+    let second = c .before .before .before .if2 in
+    let third = c .before .if3 in
+    let fourth = c .if4 in
+    let accepted = sym (is-accepted .ensures) ∙ not-false (is-accepted .result) (first .left) in
+    sym (request-short (args .walk) (args .room) accepted (second .left) (third .left) (omega (arith, fourth .taken)))
 
 returns-5 : tie.Need-returns-5
 unfolding roomAsked
 returns-5 c =
     let args = c .before .before .before .before .before .before .before .args in
-    let accepted = sym (c .before .before .before .before .before .before .is-accepted .ensures) ∙ not-false (c .before .before .before .before .before .before .is-accepted .result) (c .before .before .before .before .before .if1 .left) in
-    let is-request = sent-request (args .walk) _ (c .before .before .before .if2 .left) (c .before .if3 .left) refl in
-    sym (none-short (args .walk) (args .room) accepted (rw is-request (omega (arith, c .if4 .left))))
+    let is-accepted = c .before .before .before .before .before .before .is-accepted in
+    let first = c .before .before .before .before .before .if1 in
+    let second = c .before .before .before .if2 in
+    let third = c .before .if3 in
+    let fourth = c .if4 in
+    let accepted = sym (is-accepted .ensures) ∙ not-false (is-accepted .result) (first .left) in
+    let is-request = sent-request (args .walk) _ (second .left) (third .left) refl in
+    sym (none-short (args .walk) (args .room) accepted (rw is-request (omega (arith, fourth .left))))
 
 pub refusal-spec : {M : Type 1} → statement M
 refusal-spec =

@@ -17,18 +17,36 @@ has-family-requires : tie.Need-has-family-requires
 has-family-requires c κs = search needs
 
 add-result : tie.Need-add-result
-add-result c = omega (arith, c .before .before .mask-bytes .ensures, mask-bytes-most (c .before .before .before .before .args .walk .level) (c .before .before .before .before .pre))
+add-result c =
+    let mask-bytes = c .before .before .mask-bytes in
+    let args = c .before .before .before .before .args in
+    let asked = c .before .before .before .before .pre in
+    omega (arith, mask-bytes .ensures, mask-bytes-most (args .walk .level) (asked))
 
 add-result-2 : tie.Need-add-result-2
-add-result-2 c = omega (arith, c .before .before .mask-bytes .ensures, mask-bytes-most (c .before .before .before .before .args .walk .level) (c .before .before .before .before .pre))
+add-result-2 c =
+    let mask-bytes = c .before .before .mask-bytes in
+    let args = c .before .before .before .before .args in
+    let asked = c .before .before .before .before .pre in
+    omega (arith, mask-bytes .ensures, mask-bytes-most (args .walk .level) (asked))
 
 returns : tie.Need-returns
 unfolding maskLength
-returns c = rw (c .before .before .mask-bytes .ensures) (sym (length-with-family (c .before .before .before .before .args .walk) (sym (c .before .has-family .ensures) ∙ c .if1 .taken)))
+returns c =
+    let mask-bytes = c .before .before .mask-bytes in
+    let args = c .before .before .before .before .args in
+    let has-family = c .before .has-family in
+    let first = c .if1 in
+    rw (mask-bytes .ensures) (sym (length-with-family (args .walk) (sym (has-family .ensures) ∙ first .taken)))
 
 returns-2 : tie.Need-returns-2
 unfolding maskLength
-returns-2 c = rw (c .before .before .mask-bytes .ensures) (sym (length-no-family (c .before .before .before .before .args .walk) (sym (c .before .has-family .ensures) ∙ c .if1 .left)))
+returns-2 c =
+    let mask-bytes = c .before .before .mask-bytes in
+    let args = c .before .before .before .before .args in
+    let has-family = c .before .has-family in
+    let first = c .if1 in
+    rw (mask-bytes .ensures) (sym (length-no-family (args .walk) (sym (has-family .ensures) ∙ first .left)))
 
 pub request-length-spec : {M : Type 1} → statement M
 request-length-spec =

@@ -13,7 +13,12 @@ request-length-requires : tie.Need-request-length-requires
 request-length-requires c κs = search needs
 
 returns-2 : tie.Need-returns-2
-returns-2 c = sym (sent-request (c .before .before .before .before .before .args .walk) _ (c .before .before .before .if1 .left) (omega (arith, c .before .if2 .taken)) (c .request-length .ensures))
+returns-2 c =
+    let args = c .before .before .before .before .before .args in
+    let first = c .before .before .before .if1 in
+    let second = c .before .if2 in
+    let request-length = c .request-length in
+    sym (sent-request (args .walk) _ (first .left) (omega (arith, second .taken)) (request-length .ensures))
 
 returns-3 : tie.Need-returns-3
 returns-3 c = sym (sent-mark _ (c .before .before .if1 .left) (c .if2 .left))

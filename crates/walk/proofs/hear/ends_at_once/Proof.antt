@@ -22,19 +22,35 @@ returns c = rw (c .enum-told .given .1)
 
 returns-2 : tie.Need-returns-2
 unfolding endsAtOnce places
-returns-2 c = rw (c .before .before .enum-told2 .given .1, lt-ltb (c .before .before .before .before .args .walk .level) 15 (omega (arith, c .if1 .taken)))
+returns-2 c =
+    let enum-told2 = c .before .before .enum-told2 in
+    let args = c .before .before .before .before .args in
+    let first = c .if1 in
+    rw (enum-told2 .given .1, lt-ltb (args .walk .level) 15 (omega (arith, first .taken)))
 
 returns-3 : tie.Need-returns-3
 unfolding endsAtOnce places
-returns-3 c = rw (c .before .before .enum-told2 .given .1, le-ltb (c .before .before .before .before .args .walk .level) 15 (omega (arith, c .if1 .left)))
+returns-3 c =
+    let enum-told2 = c .before .before .enum-told2 in
+    let args = c .before .before .before .before .args in
+    let first = c .if1 in
+    rw (enum-told2 .given .1, le-ltb (args .walk .level) 15 (omega (arith, first .left)))
 
 returns-4 : tie.Need-returns-4
 unfolding endsAtOnce places
-returns-4 c = rw (c .before .before .enum-told3 .given .1, lt-ltb (c .before .before .before .before .args .walk .count) 64 (omega (arith, c .if2 .taken)))
+returns-4 c =
+    let enum-told3 = c .before .before .enum-told3 in
+    let args = c .before .before .before .before .args in
+    let second = c .if2 in
+    rw (enum-told3 .given .1, lt-ltb (args .walk .count) 64 (omega (arith, second .taken)))
 
 returns-5 : tie.Need-returns-5
 unfolding endsAtOnce places
-returns-5 c = rw (c .before .before .enum-told3 .given .1, le-ltb (c .before .before .before .before .args .walk .count) 64 (omega (arith, c .if2 .left)))
+returns-5 c =
+    let enum-told3 = c .before .before .enum-told3 in
+    let args = c .before .before .before .before .args in
+    let second = c .if2 in
+    rw (enum-told3 .given .1, le-ltb (args .walk .count) 64 (omega (arith, second .left)))
 
 pub ends-at-once-spec : {M : Type 1} → statement M
 ends-at-once-spec =

@@ -15,14 +15,23 @@ is-sealed-requires c κs = search needs
 
 returns-2 : tie.Need-returns-2
 unfolding isClean maskLength
-returns-2 c = rw (eq-eqb _ _ (c .before .before .if1 .left), ← (c .before .is-sealed .ensures), not-true (c .before .is-sealed .result) (c .if2 .taken))
+returns-2 c =
+    let first = c .before .before .if1 in
+    let is-sealed = c .before .is-sealed in
+    let second = c .if2 in
+    rw (eq-eqb _ _ (first .left), ← (is-sealed .ensures), not-true (is-sealed .result) (second .taken))
 
 shared-slice-read-if3 : tie.Need-shared-slice-read-if3
 shared-slice-read-if3 c = search needs
 
 returns-3 : tie.Need-returns-3
 unfolding isClean maskLength
-returns-3 c = rw (eq-eqb _ _ (c .before .before .before .before .if1 .left), ← (c .before .before .before .is-sealed .ensures), not-false (c .before .before .before .is-sealed .result) (c .before .before .if2 .left), ne-eqb _ _ (c .if3 .taken))
+returns-3 c =
+    let first = c .before .before .before .before .if1 in
+    let is-sealed = c .before .before .before .is-sealed in
+    let second = c .before .before .if2 in
+    let third = c .if3 in
+    rw (eq-eqb _ _ (first .left), ← (is-sealed .ensures), not-false (is-sealed .result) (second .left), ne-eqb _ _ (third .taken))
 
 uid-of-requires : tie.Need-uid-of-requires
 uid-of-requires c κs = search needs
@@ -38,13 +47,17 @@ unfolding isClean maskLength
 returns-4 c =
     let is-sealed = c .before .before .before .before .before .before .is-sealed in
     let uid-of = c .before .before .uid-of in
+    let first = c .before .before .before .before .before .before .before .if1 in
+    let second = c .before .before .before .before .before .if2 in
+    let third = c .before .before .before .if3 in
+    let fits-slot = c .fits-slot in
     rw (
-      eq-eqb _ _ (c .before .before .before .before .before .before .before .if1 .left),
+      eq-eqb _ _ (first .left),
       ← (is-sealed .ensures),
-      not-false (is-sealed .result) (c .before .before .before .before .before .if2 .left),
-      eq-eqb _ _ (c .before .before .before .if3 .left),
+      not-false (is-sealed .result) (second .left),
+      eq-eqb _ _ (third .left),
       ← (uid-of .ensures),
-    ) (c .fits-slot .ensures)
+    ) (fits-slot .ensures)
 
 pub is-clean-spec : {M : Type 1} → statement M
 is-clean-spec =

@@ -29,7 +29,12 @@ returns-2 c = rw (c .enum-told2 .given .1)
 
 returns-3 : tie.Need-returns-3
 unfolding judged
-returns-3 c = rw (c .before .before .before .enum-told3 .given .1, ← (c .before .before .is-clean .ensures), c .before .if1 .taken, c .uid-of .ensures)
+returns-3 c =
+    let enum-told3 = c .before .before .before .enum-told3 in
+    let is-clean = c .before .before .is-clean in
+    let first = c .before .if1 in
+    let uid-of = c .uid-of in
+    rw (enum-told3 .given .1, ← (is-clean .ensures), first .taken, uid-of .ensures)
 
 returns-4 : tie.Need-returns-4
 unfolding judged

@@ -16,7 +16,8 @@ enum-told-2 c = search needs
 marked-requires : tie.Need-marked-requires
 marked-requires c κs =
     let args = c .before .before .args in
-    let facts = accepted-of-is-accepted (args .walk) (c .before .before .pre .0) in
+    let asked = c .before .before .pre in
+    let facts = accepted-of-is-accepted (args .walk) (asked .0) in
     (facts .level, omega (arith, facts .slot))
 
 enum-told-3 : tie.Need-enum-told-3

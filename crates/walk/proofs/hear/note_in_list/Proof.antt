@@ -22,7 +22,11 @@ mul-list : tie.Need-mul-list
 mul-list c = search needs
 
 slice-write-list : tie.Need-slice-write-list
-slice-write-list c = omega (arith, clean-goes-on (c .before .before .before .before .args .walk) (c .before .before .slot .given .1) (c .before .before .before .before .pre .0), c .before .before .before .before .pre .1)
+slice-write-list c =
+    let args = c .before .before .before .before .args in
+    let slot = c .before .before .slot in
+    let asked = c .before .before .before .before .pre in
+    omega (arith, clean-goes-on (args .walk) (slot .given .1) (asked .0), asked .1)
 
 returns : tie.Need-returns
 unfolding listNoted

@@ -15,15 +15,29 @@ returns c = rw (← (c .before .is-accepted .ensures), not-true (c .before .is-a
 
 returns-2 : tie.Need-returns-2
 unfolding refusal isRunning places
-returns-2 c = rw (← (c .before .before .before .is-accepted .ensures), not-false (c .before .before .before .is-accepted .result) (c .before .before .if1 .left), ne-eqb _ _ (c .if2 .taken))
+returns-2 c =
+    let is-accepted = c .before .before .before .is-accepted in
+    let first = c .before .before .if1 in
+    let second = c .if2 in
+    rw (← (is-accepted .ensures), not-false (is-accepted .result) (first .left), ne-eqb _ _ (second .taken))
 
 returns-3 : tie.Need-returns-3
 unfolding refusal isRunning places
-returns-3 c = rw (← (c .before .before .before .before .is-accepted .ensures), not-false (c .before .before .before .before .is-accepted .result) (c .before .before .before .if1 .left), eq-eqb _ _ (c .before .if2 .left), lt-leb _ _ (c .if3 .taken))
+returns-3 c =
+    let is-accepted = c .before .before .before .before .is-accepted in
+    let first = c .before .before .before .if1 in
+    let second = c .before .if2 in
+    let third = c .if3 in
+    rw (← (is-accepted .ensures), not-false (is-accepted .result) (first .left), eq-eqb _ _ (second .left), lt-leb _ _ (third .taken))
 
 returns-4 : tie.Need-returns-4
 unfolding refusal isRunning places
-returns-4 c = rw (← (c .before .before .before .before .is-accepted .ensures), not-false (c .before .before .before .before .is-accepted .result) (c .before .before .before .if1 .left), eq-eqb _ _ (c .before .if2 .left), le-leb _ _ (c .if3 .left))
+returns-4 c =
+    let is-accepted = c .before .before .before .before .is-accepted in
+    let first = c .before .before .before .if1 in
+    let second = c .before .if2 in
+    let third = c .if3 in
+    rw (← (is-accepted .ensures), not-false (is-accepted .result) (first .left), eq-eqb _ _ (second .left), le-leb _ _ (third .left))
 
 pub refusal-spec : {M : Type 1} → statement M
 refusal-spec = tie.close (tie.spec is-accepted-requires returns returns-2 returns-3 returns-4)

@@ -23,7 +23,11 @@ note-requires c κs = search needs
 pass-requires : tie.Need-pass-requires
 pass-requires c κs =
     let args = c .before .before .before .before .before .before .before .before .args in
-    rw (c .note .ensures) (noted-deepest (args .walk) (args .slot) (c .before .before .before .before .before .before .before .before .pre .0) (sym (c .before .before .before .before .before .before .ends-at-once .ensures) ∙ c .before .before .before .before .before .if1 .left))
+    let note = c .note in
+    let asked = c .before .before .before .before .before .before .before .before .pre in
+    let ends-at-once = c .before .before .before .before .before .before .ends-at-once in
+    let first = c .before .before .before .before .before .if1 in
+    rw (note .ensures) (noted-deepest (args .walk) (args .slot) (asked .0) (sym (ends-at-once .ensures) ∙ first .left))
 
 same-length : tie.Need-same-length
 same-length c = search needs
@@ -31,8 +35,13 @@ same-length c = search needs
 returns-2 : tie.Need-returns-2
 returns-2 c =
     let args = c .before .before .before .before .before .before .before .before .before .args in
-    let goes-on = sym (c .before .before .before .before .before .before .before .ends-at-once .ensures) ∙ c .before .before .before .before .before .before .if1 .left in
-    after-passing (args .walk) (args .slot) (args .list .now) _ _ goes-on (rw (← (c .before .note .ensures)) (c .pass .ensures)) (c .before .before .before .before .note-in-list .ensures)
+    let ends-at-once = c .before .before .before .before .before .before .before .ends-at-once in
+    let first = c .before .before .before .before .before .before .if1 in
+    let note = c .before .note in
+    let pass = c .pass in
+    let note-in-list = c .before .before .before .before .note-in-list in
+    let goes-on = sym (ends-at-once .ensures) ∙ first .left in
+    after-passing (args .walk) (args .slot) (args .list .now) _ _ goes-on (rw (← (note .ensures)) (pass .ensures)) (note-in-list .ensures)
 
 pub take-spec : {M : Type 1} → statement M
 take-spec =

@@ -44,8 +44,9 @@ loop-again c = (omega arith, sym (deepest-before _ _ (c .before .loop-test .take
 returns-2 : tie.Need-returns-2 Inv-loop μ-loop
 unfolding deepestOf
 returns-2 c =
-    let none : c .before .loop .n ≡ 0 = omega arith in
-    rw none at (c .before .loop .inv .1)
+    let loop = c .before .loop in
+    let none : loop .n ≡ 0 = omega arith in
+    rw none at (loop .inv .1)
 
 pub deepest-spec : {M : Type 1} → statement M
 deepest-spec =

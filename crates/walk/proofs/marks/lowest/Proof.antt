@@ -25,7 +25,12 @@ waits-requires : tie.Need-waits-requires Inv-loop μ-loop
 waits-requires c κs = omega arith
 
 returns : tie.Need-returns Inv-loop μ-loop
-returns c = sym (lowest-here _ _ (c .before .before .loop-test .taken) (sym (c .before .waits .ensures) ∙ c .if1 .taken)) ∙ c .before .before .before .loop .inv .1
+returns c =
+    let test = c .before .before .loop-test in
+    let waits = c .before .waits in
+    let first = c .if1 in
+    let loop = c .before .before .before .loop in
+    sym (lowest-here _ _ (test .taken) (sym (waits .ensures) ∙ first .taken)) ∙ loop .inv .1
 
 sub-left : tie.Need-sub-left Inv-loop μ-loop
 sub-left c = omega arith
@@ -34,13 +39,19 @@ loop-less : tie.Need-loop-less Inv-loop μ-loop
 loop-less c = omega arith
 
 loop-again : tie.Need-loop-again Inv-loop μ-loop
-loop-again c = (omega arith, sym (lowest-next _ _ (c .before .before .loop-test .taken) (c .before .before .before .loop .inv .0) (sym (c .before .waits .ensures) ∙ c .if1 .left)) ∙ c .before .before .before .loop .inv .1)
+loop-again c =
+    let test = c .before .before .loop-test in
+    let loop = c .before .before .before .loop in
+    let waits = c .before .waits in
+    let first = c .if1 in
+    (omega arith, sym (lowest-next _ _ (test .taken) (loop .inv .0) (sym (waits .ensures) ∙ first .left)) ∙ loop .inv .1)
 
 returns-2 : tie.Need-returns-2 Inv-loop μ-loop
 unfolding lowestFrom
 returns-2 c =
-    let none : c .before .loop .left ≡ 0 = omega arith in
-    rw none at (c .before .loop .inv .1)
+    let loop = c .before .loop in
+    let none : loop .left ≡ 0 = omega arith in
+    rw none at (loop .inv .1)
 
 pub lowest-spec : {M : Type 1} → statement M
 lowest-spec =

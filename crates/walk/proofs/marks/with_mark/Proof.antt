@@ -17,8 +17,12 @@ power-requires c κs = search needs
 add-result : tie.Need-add-result
 add-result c =
     let args = c .before .before .before .args in
-    let clear = sym (c .before .before .waits .ensures) ∙ c .before .if1 .left in
-    omega (arith, c .power .ensures, mark-fits (args .m) (args .s) (omega arith) (c .before .before .before .pre) clear)
+    let waits = c .before .before .waits in
+    let first = c .before .if1 in
+    let power = c .power in
+    let asked = c .before .before .before .pre in
+    let clear = sym (waits .ensures) ∙ first .left in
+    omega (arith, power .ensures, mark-fits (args .m) (args .s) (omega arith) (asked) clear)
 
 returns : tie.Need-returns
 unfolding withMark

@@ -21,8 +21,11 @@ mul-result c = omega (arith, digit-most (c .unit .result) (c .before .before .ar
 add-result : tie.Need-add-result
 add-result c =
     let args = c .before .before .args in
-    let low = low-digits-most (args .mask) (args .j) (c .before .before .pre .0) in
-    omega (arith, c .before .low-bits .ensures, low, digit-most (c .unit .result) (args .s) (c .before .before .pre .1), c .unit .ensures .1)
+    let asked = c .before .before .pre in
+    let low-bits = c .before .low-bits in
+    let unit = c .unit in
+    let low = low-digits-most (args .mask) (args .j) (asked .0) in
+    omega (arith, low-bits .ensures, low, digit-most (unit .result) (args .s) (asked .1), unit .ensures .1)
 
 returns : tie.Need-returns
 unfolding openedMask maskLength

@@ -20,9 +20,11 @@ shl-result c = search needs
 returns : tie.Need-returns
 unfolding maskLength
 returns c =
-    let j = c .args .j in
+    let args = c .args in
+    let asked = c .pre in
+    let j = args .j in
     let power = bit-at (4 * j) (omega arith) in
-    (power, rw power (unit-most j (c .pre)))
+    (power, rw power (unit-most j (asked)))
 
 pub unit-spec : {M : Type 1} → statement M
 unit-spec = tie.close (tie.spec mul-result cast-result shl-result returns)
