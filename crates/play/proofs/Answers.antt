@@ -14,7 +14,7 @@ use Rattle.frames.proofs.Ways.{puts-served}
 use Rattle.frames.proofs.Unique.{put-field-unique}
 use Rattle.card.specs.declared.Card.{Card}
 use Rattle.play.specs.Answer.{information, presence}
-use Rattle.play.specs.Puts.{Puts}
+use Rattle.lent.specs.Puts.{Puts}
 
 -- straight-line stores at the start
 pub sets-over : (s e : List ℕ) → length s ≤ length e → sets e 0 s ≡ over s e

@@ -11,7 +11,7 @@ use lib.ListN.{length, take, drop, getD, set, length-append, length-take}
 use Rattle.lent.specs.Lent.{placed}
 use Rattle.lent.proofs.Over.{sets-placed, placed-none, placed-placed}
 use Rattle.play.specs.Answer.{blockOf, blockRead, blocksRead}
-use Rattle.play.specs.Puts.{Puts, PutsAt}
+use Rattle.lent.specs.Puts.{Puts, PutsAt}
 use Rattle.play.proofs.Copy.{length-part}
 use Rattle.play.proofs.Answers.{first-placed}
 use Rattle.play.proofs.Shape.{block-within}

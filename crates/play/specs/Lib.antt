@@ -2,5 +2,4 @@ pub mod Refusal
 pub mod Answer
 pub mod Effects
 pub mod Fits
-pub mod Puts
 pub mod Events

@@ -8,7 +8,7 @@ ghost use Rattle.card.specs.Record.{shapeFits};
 ghost use Rattle.play.specs.Refusal.{roomFits};
 ghost use Rattle.play.specs.Fits.{replyFits};
 ghost use Rattle.play.specs.Answer.{blockRead, blocksRead, locksRead, information, presence, replyBytes};
-ghost use Rattle.play.specs.Puts.{Puts, PutsAt};
+ghost use Rattle.lent.specs.Puts.{Puts, PutsAt};
 use crate::effects::copy;
 use card::Card;
 use card::Reply;

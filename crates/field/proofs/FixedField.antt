@@ -1,0 +1,171 @@
+-- A walk of a fixed field: what is listed and what is ahead is the field, and each round opened is a shared tail.
+-- By the weights of UIDs and of tails, which every slot keeps. Assumes nothing.
+use mathlib.Core.Path.{_≡_, refl, sym, ap, _∙_}
+use mathlib.Core.Bool.{Bool, true, false, cond}
+use Prim.Native.Nat.{ℕ, zero, suc, _+_, _*_, _%_, _^_, _≤_, _<_}
+use native.Mathlib.Nat.{zero-div}
+use native.Mathlib.Omega.{arith}
+use mathlib.Core.List.{List, [], _∷_, nil≢cons}
+use borrow.Author.Tests.{eqb-true, le-leb}
+use lib.Dec.{leb, eqb}
+use lib.ListN.{length, take, getD}
+use Rattle.tails.specs.Sum.{one, tally}
+use Rattle.tails.specs.Tails.{ending, isShared, sharedTails}
+use Rattle.tails.proofs.Digits.{above-below}
+use Rattle.tails.proofs.Below.{below-none}
+use Rattle.walk.specs.declared.Walk.{Walk}
+use Rattle.walk.specs.declared.Slot.{Slot}
+use Rattle.walk.specs.declared.Slot.the-variants.{Silent, Clashed, Clean}
+use Rattle.walk.specs.Marks.{deepest}
+use Rattle.walk.specs.Record.{remade, started, counted, marked, atNextSlot, openedAt, opened}
+use Rattle.walk.specs.Hear.{endsAtOnce, noted, listNoted}
+use Rattle.field.proofs.Waiting.{wait, wait-none}
+use Rattle.field.proofs.Levels.{no-mark}
+use Rattle.field.proofs.Steady.{Steady}
+use Rattle.field.proofs.Ahead.{slotTail, toHear, ahead, ahead-start, ahead-hear, ahead-counted, ahead-next, ahead-marked, ahead-opened}
+use Rattle.field.proofs.Weights.{weigh, weigh-parts, weigh-start, belowAt, below-parts, below-start}
+use Rattle.field.proofs.Shared.{Crowded, start-crowded, marked-crowded, opened-shared, opened-crowded}
+use Rattle.field.proofs.AnyReplies.{Walks, Fits, listed-more, clean-count, start-walks, note-walks, next-walks, opened-mask-below, open-walks}
+use Rattle.field.proofs.Called.{called, slotOf}
+
+-- us the UIDs of the field, about to hear slot t
+pub record Fixed (us : List ℕ) (w : Walk) (list : List ℕ) (t : ℕ) : Type 0 where
+  pub walks : Walks w list t
+  pub weighed : (v : ℕ → ℕ) → tally v (take (w .count) list) + ahead (weigh v us) w t ≡ tally v us
+  pub tails : w .rounds + ahead (belowAt us) w t ≡ 1 + sharedTails us
+  pub crowded : Crowded us (w .marks) (w .mask)
+
+one-of : {b : Bool} → b ≡ true → one b ≡ 1
+unfolding one
+one-of e = rw e
+
+weighed-none : (v : ℕ → ℕ) {a b : ℕ} → a ≡ b → tally v [] + a ≡ b
+unfolding tally
+weighed-none v e = omega (arith, e)
+
+pub start-fixed : (us : List ℕ) (family : ℕ) (list : List ℕ) → 64 ≤ length list → Fixed us (started family) list 0
+unfolding started
+start-fixed us family list h =
+    record {
+      walks = start-walks family list h;
+      weighed = λ v. start-weighed v;
+      tails = ap (λ (n : ℕ). 1 + n) (ahead-start (belowAt us) family ∙ below-start us);
+      crowded = start-crowded us 0;
+    }
+  where
+    start-weighed : (v : ℕ → ℕ) → tally v (take (started family .count) list) + ahead (weigh v us) (started family) 0 ≡ tally v us
+    start-weighed v = weighed-none v (ahead-start (weigh v us) family ∙ weigh-start v us)
+
+-- the first of those that end in m does
+ending-head : (j m x : ℕ) (us xs : List ℕ) → ending j m us ≡ x ∷ xs → x % 16 ^ j ≡ m
+unfolding ending
+ending-head j m x [] xs h = absurd (nil≢cons h)
+ending-head j m x (u ∷ us) xs h = go (eqb (u % 16 ^ j) m) refl h (λ g. ending-head j m x us xs g)
+  where
+    go : (b : Bool) → eqb (u % 16 ^ j) m ≡ b → cond b (u ∷ ending j m us) (ending j m us) ≡ x ∷ xs → (ending j m us ≡ x ∷ xs → x % 16 ^ j ≡ m)
+        → x % 16 ^ j ≡ m
+    go true e g later = ap (λ (y : ℕ). y % 16 ^ j) (sym (ap (λ (l : List ℕ). getD l 0 0) g)) ∙ eqb-true (u % 16 ^ j) m e
+    go false e g later = later g
+
+-- what the slot weighs
+pub slot-weight : (v : ℕ → ℕ) (us xs : List ℕ) (w : Walk) → called us w ≡ xs → weigh v us (suc (w .level)) (slotTail (w .level) (w .mask) (w .slot)) ≡ tally v xs
+unfolding weigh called
+slot-weight v us xs w h = ap (λ (ys : List ℕ). tally v ys) h
+
+slot-shared : (us xs : List ℕ) (w : Walk) → called us w ≡ xs → isShared us (suc (w .level)) (slotTail (w .level) (w .mask) (w .slot)) ≡ leb 2 (length xs)
+unfolding isShared called
+slot-shared us xs w h = ap (λ (ys : List ℕ). leb 2 (length ys)) h
+
+-- a slot with no clash has no shared tail
+slot-alone : (us xs : List ℕ) (w : Walk) → w .slot < 16 → Steady w (w .slot) → called us w ≡ xs → leb 2 (length xs) ≡ false
+    → belowAt us (suc (w .level)) (slotTail (w .level) (w .mask) (w .slot)) ≡ 0
+unfolding belowAt
+slot-alone us xs w h g e f =
+    below-none us _ (suc (w .level)) (slotTail (w .level) (w .mask) (w .slot)) (above-below (w .level) (w .mask) (w .slot) (g .mask-fits) h)
+    (slot-shared us xs w e ∙ f)
+
+clean-room : (w : Walk) (list : List ℕ) (x : ℕ) {t : ℕ} → Walks w list t → endsAtOnce w (Clean x) ≡ 0 → w .count < length list
+clean-room w list x g e =
+    let few : w .count < 64 = clean-count w x e in
+    let many : 64 ≤ length list = g .places-fit in
+    omega arith
+
+-- a slot that does not end the walk, by those it calls
+note-of : (us xs : List ℕ) (w : Walk) (list : List ℕ) → called us w ≡ xs → w .slot < 16 → Fixed us w list (w .slot) → endsAtOnce w (slotOf xs) ≡ 0
+    → Fixed us (noted w (slotOf xs)) (listNoted w (slotOf xs) list) (suc (w .slot))
+unfolding slotOf noted listNoted counted marked remade Fits tally called
+note-of us [] w list c h g e =
+    record {
+      walks = note-walks w list Silent h (g .walks) e tt;
+      weighed = λ v.
+          let heard = ahead-hear (weigh v us) w (w .slot) h in
+          let weight : weigh v us (suc (w .level)) (slotTail (w .level) (w .mask) (w .slot)) ≡ 0 = slot-weight v us [] w c in
+          omega (arith, heard, weight, g .weighed v);
+      tails =
+          let heard = ahead-hear (belowAt us) w (w .slot) h in
+          let weight = slot-alone us [] w h (g .walks .steady) c refl in
+          omega (arith, heard, weight, g .tails);
+      crowded = g .crowded;
+    }
+note-of us (x ∷ []) w list c h g e =
+    record {
+      walks = note-walks w list (Clean x) h (g .walks) e (ending-head (suc (w .level)) (slotTail (w .level) (w .mask) (w .slot)) x us [] c);
+      weighed = λ v.
+          let heard = ahead-hear (weigh v us) w (w .slot) h in
+          let weight : weigh v us (suc (w .level)) (slotTail (w .level) (w .mask) (w .slot)) ≡ v x + 0 = slot-weight v us (x ∷ []) w c in
+          let more = listed-more v (w .count) x list (clean-room w list x (g .walks) e) in
+          let same = ahead-counted (weigh v us) w (suc (w .slot)) in
+          omega (arith, heard, weight, more, same, g .weighed v);
+      tails =
+          let heard = ahead-hear (belowAt us) w (w .slot) h in
+          let weight = slot-alone us (x ∷ []) w h (g .walks .steady) c refl in
+          let same = ahead-counted (belowAt us) w (suc (w .slot)) in
+          omega (arith, heard, weight, same, g .tails);
+      crowded = g .crowded;
+    }
+note-of us (x ∷ y ∷ xs) w list c h g e =
+    record {
+      walks = note-walks w list Clashed h (g .walks) e tt;
+      weighed = λ v.
+          let heard = ahead-hear (weigh v us) w (w .slot) h in
+          let again = ahead-marked (weigh v us) w (suc (w .slot)) h (g .walks .steady) in
+          omega (arith, heard, again, g .weighed v);
+      tails =
+          let heard = ahead-hear (belowAt us) w (w .slot) h in
+          let again = ahead-marked (belowAt us) w (suc (w .slot)) h (g .walks .steady) in
+          omega (arith, heard, again, g .tails);
+      crowded = marked-crowded us w h (g .walks .steady) (g .crowded) (slot-shared us (x ∷ y ∷ xs) w c ∙ le-leb 2 (suc (suc (length xs))) (omega arith));
+    }
+
+pub note-fixed : (us : List ℕ) (w : Walk) (list : List ℕ) → w .slot < 16 → Fixed us w list (w .slot) → endsAtOnce w (slotOf (called us w)) ≡ 0
+    → Fixed us (noted w (slotOf (called us w))) (listNoted w (slotOf (called us w)) list) (suc (w .slot))
+note-fixed us w list h g e = note-of us (called us w) w list refl h g e
+
+pub next-fixed : (us : List ℕ) (w : Walk) (list : List ℕ) (t : ℕ) → Fixed us w list t → Fixed us (atNextSlot w) list t
+unfolding atNextSlot remade
+next-fixed us w list t g =
+    record {
+      walks = next-walks w list t (g .walks);
+      weighed = λ v. let same = ahead-next (weigh v us) w t in omega (arith, same, g .weighed v);
+      tails = let same = ahead-next (belowAt us) w t in omega (arith, same, g .tails);
+      crowded = g .crowded;
+    }
+
+pub open-fixed : (us : List ℕ) (w : Walk) (list : List ℕ) (j : ℕ) → Fixed us w list 16 → deepest (w .marks) ≡ suc j → j < 15 → w .rounds < 481
+    → Fixed us (opened w j) list 0
+unfolding opened openedAt remade
+open-fixed us w list j g d n r =
+    let steady : Steady w 16 = g .walks .steady in
+    record {
+      walks = open-walks w list j (g .walks) d r;
+      weighed = λ v.
+          let turned = ahead-opened (weigh v us) w j steady d in
+          let parts = weigh-parts v us (suc j) (opened w j .mask) (opened-mask-below w j steady d) in
+          omega (arith, turned, parts, g .weighed v);
+      tails =
+          let turned = ahead-opened (belowAt us) w j steady d in
+          let parts = below-parts us (suc j) (opened w j .mask) (omega arith) in
+          let shared : one (isShared us (suc j) (opened w j .mask)) ≡ 1 = one-of (opened-shared us w j steady d (g .crowded)) in
+          omega (arith, turned, parts, shared, g .tails);
+      crowded = opened-crowded us w j steady d (g .crowded);
+    }

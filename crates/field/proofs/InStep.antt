@@ -1,0 +1,86 @@
+-- A card in step keeps its shape, is accepted, and is no other card once cleared; a call over it is not refused.
+-- By the card's two ways to be in step. Assumes nothing.
+use mathlib.Core.Path.{_≡_, refl, sym, ap, _∙_}
+use mathlib.Core.Bool.{Bool, true, false, cond, _&&_}
+use Prim.Native.Nat.{ℕ, zero, suc, _+_, _*_, _^_, _≤_, _<_}
+use native.Mathlib.Omega.{arith}
+use mathlib.Core.List.{List}
+use borrow.Author.Tests.{le-leb, lt-ltb}
+use lib.ListN.{length}
+use Rattle.card.specs.declared.Card.{Card}
+use Rattle.card.specs.declared.Sequence.the-variants.{Running}
+use Rattle.card.specs.Record.{shapeFits, sequenceFits, heldFits, isAccepted, remade, cleared, inSequence}
+use Rattle.play.specs.Refusal.{lengthsFit, locksFit, roomFits, refusal}
+use Rattle.play.specs.Answer.{presence}
+use Rattle.play.proofs.Shape.{accepted-shape}
+use Rattle.play.proofs.Room.{room-of}
+use Rattle.walk.specs.Record.{maskLength}
+use Rattle.field.specs.Field.{answers}
+use Rattle.field.proofs.InTime.{inStep}
+use Rattle.field.proofs.Reply.{message}
+use Rattle.field.proofs.Requested.{mask-length-most}
+
+-- ---- the refusals
+
+accepted-of : (b : Bool) (x : ℕ) → cond b x 1 ≡ 0 → b ≡ true
+accepted-of true x e = refl
+accepted-of false x e = absurd (omega arith)
+
+rest-of : (b : Bool) (x y : ℕ) → cond b x (suc y) ≡ 0 → x ≡ 0
+rest-of true x y e = e
+rest-of false x y e = absurd (omega arith)
+
+room-fits-of : (b : Bool) → _≡_ {A = ℕ} (cond b 0 4) 0 → b ≡ true
+room-fits-of true e = refl
+room-fits-of false e = absurd (omega arith)
+
+pub served-accepted : (c : Card) (memory : ℕ) (locks : List ℕ) (room : ℕ) → refusal c memory locks room ≡ 0 → isAccepted c ≡ true
+unfolding refusal
+served-accepted c memory locks room e = accepted-of (isAccepted c) _ e
+
+pub served-room : (c : Card) (memory : ℕ) (locks : List ℕ) (room : ℕ) → refusal c memory locks room ≡ 0 → 32 ≤ room
+unfolding refusal
+served-room c memory locks room e =
+    room-of c room (room-fits-of (roomFits c room) (rest-of (locksFit locks) _ 2 (rest-of (lengthsFit c memory (length locks)) _ 1 (rest-of (isAccepted c) _ 0 e)))) .least
+
+-- an accepted card of the same shape is served too
+pub served-same : (c card : Card) (memory : ℕ) (locks : List ℕ) (room : ℕ) → card .blocks ≡ c .blocks → card .size ≡ c .size → isAccepted card ≡ true
+    → refusal c memory locks room ≡ 0 → refusal card memory locks room ≡ 0
+unfolding refusal lengthsFit roomFits
+served-same c card memory locks room a b accepted e = rw (accepted, a, b) (rest-of (isAccepted c) _ 0 e)
+
+-- ---- the card in step
+
+pub step-cleared : (family level mask s : ℕ) (c : Card) → cleared (inStep family level mask s c) ≡ cleared c
+unfolding inStep cleared inSequence remade
+step-cleared family level mask s c = go (answers family c)
+  where
+    go : (b : Bool) → cleared (cond b (inSequence (Running s (maskLength level) mask) (cleared c)) (cleared c)) ≡ cleared c
+    go true = refl
+    go false = refl
+
+pub step-message : (family level mask s : ℕ) (c : Card) → message (inStep family level mask s c) ≡ message c
+unfolding message presence inStep cleared inSequence remade
+step-message family level mask s c = go (answers family c)
+  where
+    go : (b : Bool) → message (cond b (inSequence (Running s (maskLength level) mask) (cleared c)) (cleared c)) ≡ message c
+    go true = refl
+    go false = refl
+
+pub step-accepted : (family level mask s : ℕ) (c : Card) → level < 16 → s < 16 → mask < 2 ^ maskLength level → isAccepted c ≡ true
+    → isAccepted (inStep family level mask s c) ≡ true
+unfolding inStep isAccepted sequenceFits heldFits cleared inSequence remade
+step-accepted family level mask s c h g f e = go (answers family c)
+  where
+    go : (b : Bool) → isAccepted (cond b (inSequence (Running s (maskLength level) mask) (cleared c)) (cleared c)) ≡ true
+    go true = rw (accepted-shape c e, le-leb s 15 (omega arith), le-leb (maskLength level) 60 (mask-length-most level h), lt-ltb mask (2 ^ maskLength level) f)
+    go false = rw (accepted-shape c e)
+
+-- cards that are the same once cleared have the same shape
+pub cleared-blocks : (c card : Card) → cleared card ≡ cleared c → card .blocks ≡ c .blocks
+unfolding cleared remade
+cleared-blocks c card e = ap (λ (x : Card). x .blocks) e
+
+pub cleared-size : (c card : Card) → cleared card ≡ cleared c → card .size ≡ c .size
+unfolding cleared remade
+cleared-size c card e = ap (λ (x : Card). x .size) e

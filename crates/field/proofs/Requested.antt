@@ -1,0 +1,126 @@
+-- A card that hears a round's request is in step with the walk, and answers exactly if slot 0 calls it.
+-- By the request's two heads, and the tests of the card's steps 1 to 3. Assumes nothing.
+use mathlib.Core.Path.{_≡_, refl, sym, ap, _∙_}
+use mathlib.Core.Bool.{Bool, true, false, cond, not, _&&_}
+use Prim.Native.Nat.{ℕ, zero, suc, _+_, _*_, _/_, _^_, _≤_, _<_}
+use native.Mathlib.Omega.{arith}
+use mathlib.Core.List.{List, [], _∷_, _++_}
+use lib.Dec.{ltb}
+use lib.ListN.{length, getD}
+use Rattle.crc.specs.Check.{checkBytes, sealed}
+use Rattle.crc.proofs.Seal.{length-sealed}
+use Rattle.frames.specs.Flags.{flagsOf, isOdd}
+use Rattle.frames.specs.Field.{fieldBytes}
+use Rattle.frames.specs.Frame.{shortest, longest, isSound}
+use Rattle.frames.proofs.Fields.{length-field-bytes}
+use Rattle.frames.proofs.Sound.{sound-of-sealed}
+use Rattle.slots.specs.Fits as slots
+use Rattle.card.specs.declared.Card.{Card}
+use Rattle.card.specs.declared.Deed.{Deed}
+use Rattle.card.specs.declared.Sequence.the-variants.{Running}
+use Rattle.card.specs.declared.Effect.the-variants.{Leave}
+use Rattle.card.specs.Record.{isQuiet, remade, cleared, inSequence}
+use Rattle.card.specs.Inventory.{maskBytes, fitsFamily, fitsMask, fitsSlot, present, inventoried}
+use Rattle.card.specs.Request.{deed}
+use Rattle.card.specs.Frame.{leaving, decided}
+use Rattle.walk.specs.declared.Walk.{Walk}
+use Rattle.walk.specs.Record.{maskLength, hasFamily}
+use Rattle.walk.specs.Ask.{requestHead, requestBody, request}
+use Rattle.field.specs.Field.{answers}
+use Rattle.field.proofs.InTime.{inStep, calls}
+use Rattle.field.proofs.Request.{joined, family-parsed, none-parsed}
+
+-- ---- the two heads
+
+family-request : (w : Walk) → hasFamily w ≡ true
+    → request w
+    ≡ 0x16 ∷ 0x01 ∷ w .family ∷ maskLength (w .level) ∷ (fieldBytes (maskBytes (maskLength (w .level))) (w .mask) ++ checkBytes (requestBody w))
+unfolding request requestBody requestHead sealed maskBytes slots.maskBytes
+family-request w e = rw e
+
+none-request : (w : Walk) → hasFamily w ≡ false
+    → request w ≡ 0x06 ∷ 0x01 ∷ maskLength (w .level) ∷ (fieldBytes (maskBytes (maskLength (w .level))) (w .mask) ++ checkBytes (requestBody w))
+unfolding request requestBody requestHead sealed maskBytes slots.maskBytes
+none-request w e = rw e
+
+-- ---- its length: 5 to 14 bytes
+
+body-length : (w : Walk) (b : Bool) → hasFamily w ≡ b → length (requestBody w) ≡ cond b 4 3 + (4 * w .level + 7) / 8
+unfolding requestBody requestHead slots.maskBytes maskLength
+body-length w true e = rw e (omega (arith, length-field-bytes ((4 * w .level + 7) / 8) (w .mask)))
+body-length w false e = rw e (omega (arith, length-field-bytes ((4 * w .level + 7) / 8) (w .mask)))
+
+pub request-sound : (w : Walk) → w .level < 16 → isSound (request w) ≡ true
+unfolding request shortest longest
+request-sound w h = go (hasFamily w) refl
+  where
+    go : (b : Bool) → hasFamily w ≡ b → isSound (sealed (requestBody w)) ≡ true
+    go true e = sound-of-sealed (requestBody w) (omega (arith, body-length w true e)) (omega (arith, body-length w true e))
+    go false e = sound-of-sealed (requestBody w) (omega (arith, body-length w false e)) (omega (arith, body-length w false e))
+
+pub request-most : (w : Walk) → w .level < 16 → length (request w) ≤ 14
+unfolding request
+request-most w h = go (hasFamily w) refl
+  where
+    go : (b : Bool) → hasFamily w ≡ b → length (sealed (requestBody w)) ≤ 14
+    go true e = omega (arith, length-sealed (requestBody w), body-length w true e)
+    go false e = omega (arith, length-sealed (requestBody w), body-length w false e)
+
+-- ---- what the card makes of it
+
+-- sound frames with one of the two flags are inventories
+family-decided : (c : Card) (locks rest : List ℕ) → isSound (0x16 ∷ rest) ≡ true
+    → decided c locks (0x16 ∷ rest) ≡ leaving (inventoried (cleared c) (flagsOf 0x16) (0x16 ∷ rest))
+unfolding decided flagsOf
+family-decided c locks rest e = rw e
+
+none-decided : (c : Card) (locks rest : List ℕ) → isSound (0x06 ∷ rest) ≡ true
+    → decided c locks (0x06 ∷ rest) ≡ leaving (inventoried (cleared c) (flagsOf 0x06) (0x06 ∷ rest))
+unfolding decided flagsOf
+none-decided c locks rest e = rw e
+
+-- which cards take part
+family-answers : (w : Walk) (c : Card) → hasFamily w ≡ true
+    → (not (isQuiet (cleared c .mode)) && fitsFamily (w .family) (cleared c .afi)) ≡ answers (w .family) c
+unfolding answers hasFamily cleared remade
+family-answers w c e = rw e
+
+none-answers : (w : Walk) (c : Card) → hasFamily w ≡ false → (not (isQuiet (cleared c .mode)) && true) ≡ answers (w .family) c
+unfolding answers hasFamily cleared remade
+none-answers w c e = rw e
+
+-- a card that joins is in step
+joined-deed : (c : Card) (w : Walk) → w .slot ≡ 0
+    → leaving (joined (answers (w .family) c) (cleared c) (maskLength (w .level)) (w .mask))
+    ≡ deed (inStep (w .family) (w .level) (w .mask) 0 c) Leave (present (calls (w .family) w c))
+unfolding joined inStep calls cleared remade present fitsSlot fitsMask slots.fitsSlot slots.fitsMask
+joined-deed c w e = rw e (go (answers (w .family) c))
+  where
+    go : (b : Bool) → leaving (joined b (cleared c) (maskLength (w .level)) (w .mask))
+        ≡ deed (cond b (inSequence (Running 0 (maskLength (w .level)) (w .mask)) (cleared c)) (cleared c)) Leave
+        (present (b && slots.fitsSlot (c .uid) (maskLength (w .level)) (w .mask) 0))
+    go true = refl
+    go false = refl
+
+pub mask-length-most : (level : ℕ) → level < 16 → maskLength level ≤ 60
+unfolding maskLength
+mask-length-most level h = omega arith
+
+pub request-decided : (c : Card) (locks : List ℕ) (w : Walk) → w .level < 16 → w .mask < 2 ^ maskLength (w .level) → w .slot ≡ 0
+    → decided c locks (request w) ≡ deed (inStep (w .family) (w .level) (w .mask) 0 c) Leave (present (calls (w .family) w c))
+unfolding checkBytes
+request-decided c locks w h g e = go (hasFamily w) refl ∙ joined-deed c w e
+  where
+    go : (b : Bool) → hasFamily w ≡ b → decided c locks (request w) ≡ leaving (joined (answers (w .family) c) (cleared c) (maskLength (w .level)) (w .mask))
+    go true f =
+        let same = family-request w f in
+        ap (decided c locks) same
+        ∙ family-decided c locks _ (rw same at (request-sound w h))
+        ∙ ap leaving (family-parsed (cleared c) (w .family) (maskLength (w .level)) (w .mask) (checkBytes (requestBody w)) refl (mask-length-most (w .level) h) g)
+        ∙ ap (λ (b : Bool). leaving (joined b (cleared c) (maskLength (w .level)) (w .mask))) (family-answers w c f)
+    go false f =
+        let same = none-request w f in
+        ap (decided c locks) same
+        ∙ none-decided c locks _ (rw same at (request-sound w h))
+        ∙ ap leaving (none-parsed (cleared c) (maskLength (w .level)) (w .mask) (checkBytes (requestBody w)) refl (mask-length-most (w .level) h) g)
+        ∙ ap (λ (b : Bool). leaving (joined b (cleared c) (maskLength (w .level)) (w .mask))) (none-answers w c f)

@@ -1,0 +1,83 @@
+-- What the walk asks for reaches a row that is in time with it: a request in slot 0, a mark in any other.
+-- By the walk's definition of what to send, and what one tag makes of it. Assumes nothing.
+use mathlib.Core.Path.{_≡_, refl, sym, ap, _∙_}
+use mathlib.Core.Bool.{Bool, true, false, cond, _&&_, and-eq-true-iff}
+use Prim.Native.Nat.{ℕ, zero, suc, _+_, _^_, _≤_, _<_}
+use native.Mathlib.Omega.{arith}
+use mathlib.Core.List.{List, [], _∷_}
+use borrow.Author.Tests.{eq-eqb, ne-eqb, le-leb, leb-true, ltb-true}
+use lib.Dec.{leb, ltb, eqb}
+use lib.ListN.{length}
+use Rattle.lent.specs.Lent.{over}
+use Rattle.lent.proofs.Over.{length-over}
+use Rattle.walk.specs.declared.Walk.{Walk}
+use Rattle.walk.specs.declared.Send.{Send}
+use Rattle.walk.specs.declared.Send.the-variants.{Nothing, Mark, Request}
+use Rattle.walk.specs.Marks.{levels}
+use Rattle.walk.specs.Record.{places, mostRounds, maskLength, marksFit, isAccepted, isRunning}
+use Rattle.walk.specs.Ask.{request, sent, roomAsked, roomAfter, refusal, Asking, asking}
+use Rattle.field.specs.Field.{Tag, Obeys}
+use Rattle.field.specs.Demand.{AllObey}
+use Rattle.field.proofs.InTime.{Follows, AtSlot, Both, Before}
+use Rattle.field.proofs.TagHeard.{request-heard, mark-reached}
+use Rattle.field.proofs.RowHeard.{Hears, both-map}
+
+-- what an accepted walk says of its fields
+pub record Fits (w : Walk) : Type 0 where
+  pub level : w .level < 16
+  pub slot : w .slot < 16
+  pub mask : w .mask < 2 ^ maskLength (w .level)
+
+pub accepted-fits : (w : Walk) → isAccepted w ≡ true → Fits w
+unfolding isAccepted levels
+accepted-fits w e =
+    let a = and-eq-true-iff (ltb (w .level) 16) _ .0 e in
+    let b = and-eq-true-iff (leb (w .slot) 15) _ .0 (a .1) in
+    let c = and-eq-true-iff (leb (w .count) places) _ .0 (b .1) in
+    let d = and-eq-true-iff (leb 1 (w .rounds)) _ .0 (c .1) in
+    let f = and-eq-true-iff (leb (w .rounds) mostRounds) _ .0 (d .1) in
+    let g = and-eq-true-iff (ltb (w .mask) (2 ^ maskLength (w .level))) _ .0 (f .1) in
+    let most : w .slot ≤ 15 = leb-true (w .slot) 15 (b .0) in
+    record {
+      level = ltb-true (w .level) 16 (a .0);
+      slot = omega arith;
+      mask = ltb-true (w .mask) (2 ^ maskLength (w .level)) (g .0);
+    }
+
+-- asking is not refused where there is room for a request
+asked-most : (s : Send) → roomAsked s ≤ 14
+unfolding roomAsked
+asked-most Nothing = omega arith
+asked-most Mark = omega arith
+asked-most (Request n) = omega arith
+
+pub walk-asked : (w : Walk) (room : List ℕ) → isAccepted w ≡ true → 14 ≤ length room
+    → asking w room ≡ record { room = roomAfter w (sent w) room; number = 0; send = sent w }
+unfolding asking refusal
+walk-asked w room e h =
+    let fits : leb (roomAsked (sent w)) (length room) ≡ true = le-leb (roomAsked (sent w)) (length room) (omega (arith, asked-most (sent w))) in
+    rw (e, fits)
+
+-- ---- what is sent
+
+sent-request : (w : Walk) → isRunning w ≡ true → w .slot ≡ 0 → sent w ≡ Request (length (request w))
+unfolding sent
+sent-request w running e = rw (running, eq-eqb (w .slot) 0 e)
+
+sent-mark : (w : Walk) (s : ℕ) → isRunning w ≡ true → w .slot ≡ suc s → sent w ≡ Mark
+unfolding sent
+sent-mark w s running e = rw (running, ne-eqb (w .slot) 0 (λ z. omega arith))
+
+pub row-hears : (w : Walk) (ts₀ ts : List Tag) (room : List ℕ) → AllObey ts₀ → Fits w → isRunning w ≡ true
+    → Before (w .family) (w .level) (w .mask) (w .slot) ts₀ ts → Both (Hears (w .family) w (sent w) (roomAfter w (sent w) room)) ts₀ ts
+unfolding Before roomAfter
+row-hears w ts₀ ts room obey fits running before = go (w .slot) refl before
+  where
+    go : (s : ℕ) → w .slot ≡ s → Before (w .family) (w .level) (w .mask) s ts₀ ts → Both (Hears (w .family) w (sent w) (roomAfter w (sent w) room)) ts₀ ts
+    go zero e b =
+        rw (sent-request w running e)
+        (both-map ts₀ ts obey (λ t₀ t o f. record { after = request-heard w room t₀ t (fits .level) (fits .mask) e o f; room = f .room }) b)
+    go (suc s) e b =
+        rw (sent-mark w s running e)
+        (both-map ts₀ ts obey
+        (λ t₀ t o a. record { after = mark-reached (w .family) w s room t₀ t (fits .level) (fits .mask) e (omega (arith, fits .slot)) o a; room = a .room }) b)

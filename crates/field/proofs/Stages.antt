@@ -1,0 +1,99 @@
+-- A fresh walk over cards, slot by slot: it hears, and 16 × rounds + slot has grown by one a slot, or it has ended.
+-- By the slot that is played and the slot that the UIDs bring. Assumes nothing.
+use mathlib.Core.Path.{_≡_, refl, sym, ap, subst, _∙_}
+use mathlib.Core.Bool.{Bool, true, false}
+use Prim.Native.Nat.{ℕ, zero, suc, _+_, _*_, _^_, _≤_, _<_}
+use native.Mathlib.Omega.{arith}
+use mathlib.Core.List.{List, [], _∷_}
+use borrow.Author.Tests.{eq-eqb, ne-eqb}
+use lib.ListN.{length, getD}
+use Rattle.walk.specs.declared.Walk.{Walk}
+use Rattle.walk.specs.Record.{running, isRunning, isAccepted, started, ended, remade}
+use Rattle.field.specs.Field.{Tag, answering}
+use Rattle.field.specs.Played.{Play, slotPlayed, playedFor, fresh}
+use Rattle.field.specs.Demand.{AllObey}
+use Rattle.walk.specs.Hear.{walkAfter}
+use Rattle.field.proofs.Steady.{Steady}
+use Rattle.field.proofs.Accepted.{mask-below, walks-accepted, ended-accepted}
+use Rattle.field.proofs.FixedField.{Fixed, start-fixed}
+use Rattle.field.proofs.Called.{called, slotOf}
+use Rattle.field.proofs.Steps.{Verdict, Kept, Next, moves, opens, stops, slot-next}
+use Rattle.field.proofs.InTime.{AtSlot, Follows, Both, Before}
+use Rattle.field.proofs.PlayedSlot.{SlotPlayed, slot-played, ended-played, at-slot-follows, follows-self}
+
+-- after n slots of a walk p over the cards tags, those that answer having the UIDs us
+pub data Stage (family : ℕ) (tags : List Tag) (us : List ℕ) (n : ℕ) (p : Play) : Type 0 where
+  hears : Fixed us (p .walk) (p .list) (p .walk .slot) → p .walk .slot < 16 → p .walk .ending ≡ 0 → p .walk .family ≡ family → 14 ≤ length (p .room)
+      → 16 * p .walk .rounds + p .walk .slot ≡ 16 + n → Before family (p .walk .level) (p .walk .mask) (p .walk .slot) tags (p .tags)
+      → Stage family tags us n p
+  rests : isAccepted (p .walk) ≡ true → isRunning (p .walk) ≡ false → Verdict us (p .walk) (p .list)
+      → Both (AtSlot family (p .walk .level) (p .walk .mask) (p .walk .slot)) tags (p .tags) → Stage family tags us n p
+
+pub stage-fresh : (family : ℕ) (tags : List Tag) (us list room : List ℕ) → AllObey tags → 64 ≤ length list → 14 ≤ length room
+    → Stage family tags us 0 (fresh family list room tags)
+unfolding fresh started Before
+stage-fresh family tags us list room obey h g =
+    hears (start-fixed us family list h) (omega arith) refl refl g (omega arith) (follows-self tags obey)
+
+-- a walk that is not running has an ending
+running-of : (w : Walk) → w .ending ≡ 0 → isRunning w ≡ true
+unfolding isRunning
+running-of w h = eq-eqb (w .ending) 0 h
+
+ended-stops : (e : ℕ) (w : Walk) → isRunning (ended (suc e) w) ≡ false
+unfolding isRunning ended remade
+ended-stops e w = ne-eqb (suc e) 0 (omega arith)
+
+-- a row that was at the slot of w, for a walk with the same level, mask and slot
+row-kept : (family : ℕ) (tags ts : List Tag) (w x : Walk) → Kept w x → Both (AtSlot family (w .level) (w .mask) (w .slot)) tags ts
+    → Both (AtSlot family (x .level) (x .mask) (x .slot)) tags ts
+row-kept family tags ts w x k row = rw (k .level, k .mask, k .slot) row
+
+rest-of : (family : ℕ) (tags : List Tag) (us : List ℕ) (n : ℕ) (w x : Walk) (q : Play) (t e : ℕ) → w .slot < 16 → Fixed us x (q .list) t → Kept w x
+    → q .walk ≡ ended (suc e) x → Verdict us (q .walk) (q .list) → Both (AtSlot family (w .level) (w .mask) (w .slot)) tags (q .tags)
+    → Stage family tags us n q
+unfolding ended remade
+rest-of family tags us n w x q t e h g k same verdict row =
+    let inside : x .slot < 16 = rw (k .slot) h in
+    rests
+    (subst (λ (y : Walk). isAccepted y ≡ true) (sym same) (ended-accepted x (q .list) t (suc e) inside (g .walks)))
+    (subst (λ (y : Walk). isRunning y ≡ false) (sym same) (ended-stops e x))
+    verdict
+    (subst (λ (y : Walk). Both (AtSlot family (y .level) (y .mask) (y .slot)) tags (q .tags)) (sym same) (row-kept family tags (q .tags) w x k row))
+
+-- what the next slot finds
+next-stage : (family : ℕ) (tags : List Tag) (us : List ℕ) (n : ℕ) (w : Walk) (q : Play) → AllObey tags → Steady w (w .slot) → w .slot < 16
+    → w .ending ≡ 0 → w .family ≡ family → 14 ≤ length (q .room) → 16 * w .rounds + w .slot ≡ 16 + n
+    → Both (AtSlot family (w .level) (w .mask) (w .slot)) tags (q .tags) → Next us w (q .walk) (q .list) → Stage family tags us (suc n) q
+unfolding Before
+next-stage family tags us n w q obey steady h e f room count row (moves g s l m t y z r) =
+    hears (subst (λ (k : ℕ). Fixed us (q .walk) (q .list) k) (sym t) g) (omega (arith, t)) (z ∙ e) (y ∙ f) room (omega (arith, t, r, count))
+    (rw (l, m, t) row)
+next-stage family tags us n w q obey steady h e f room count row (opens g s t y z r) =
+    hears (subst (λ (k : ℕ). Fixed us (q .walk) (q .list) k) (sym t) g) (omega (arith, t)) (z ∙ e) (y ∙ f) room (omega (arith, s, t, r, count))
+    (rw t
+    (at-slot-follows family (w .level) (w .mask) (w .slot) tags (q .tags) obey (steady .level-fits) h (mask-below w (w .slot) steady) row))
+next-stage family tags us n w q obey steady h e f room count row (stops {x} {t} g k d same verdict) =
+    rest-of family tags us (suc n) w x q t d h g k same verdict row
+
+pub stage-slot : (family : ℕ) (tags : List Tag) (n : ℕ) (p : Play) → AllObey tags → ((i : ℕ) → getD (answering family tags) i 0 < 16 ^ 16)
+    → Stage family tags (answering family tags) n p → Stage family tags (answering family tags) (suc n) (slotPlayed p)
+stage-slot family tags n p obey fit (hears g h e f room count row) =
+    let w : Walk = p .walk in
+    let us : List ℕ = answering family tags in
+    let played : SlotPlayed family tags p (slotPlayed p) =
+    slot-played family tags p obey (walks-accepted w (p .list) (w .slot) h (g .walks)) (running-of w e) f (g .walks .places-fit) room row in
+    let next : Next us w (slotPlayed p .walk) (slotPlayed p .list) =
+    subst (λ (y : Walk). Next us w y (slotPlayed p .list)) (sym (played .walk))
+    (subst (λ (l : List ℕ). Next us w (walkAfter w (slotOf (called us w))) l) (sym (played .list)) (slot-next us w (p .list) fit h g)) in
+    next-stage family tags us n w (slotPlayed p) obey (g .walks .steady) h e f (rw (played .room) room) count (played .tags) next
+stage-slot family tags n p obey fit (rests a r v row) =
+    subst (λ (q : Play). Stage family tags (answering family tags) (suc n) q) (sym (ended-played p a r)) (rests a r v row)
+
+pub stage-for : (family : ℕ) (tags : List Tag) (n m : ℕ) (p : Play) → AllObey tags → ((i : ℕ) → getD (answering family tags) i 0 < 16 ^ 16)
+    → Stage family tags (answering family tags) m p → Stage family tags (answering family tags) (m + n) (playedFor n p)
+unfolding playedFor
+stage-for family tags zero m p obey fit s = subst (λ (k : ℕ). Stage family tags (answering family tags) k p) (omega arith) s
+stage-for family tags (suc n) m p obey fit s =
+    subst (λ (k : ℕ). Stage family tags (answering family tags) k (playedFor n (slotPlayed p))) (omega arith)
+    (stage-for family tags n (suc m) (slotPlayed p) obey fit (stage-slot family tags m p obey fit s))

@@ -1,0 +1,181 @@
+-- A slot of a fixed field: the walk goes on, or it ends complete, twins or full, with what each means.
+-- By the tests of hearing, one after the other. Assumes nothing.
+use mathlib.Core.Path.{_≡_, refl, sym, ap, subst, _∙_}
+use mathlib.Core.Bool.{Bool, true, false, cond}
+use Prim.Native.Nat.{ℕ, zero, suc, _+_, _*_, _%_, _^_, _≤_, _<_}
+use native.Mathlib.Numerals.{add-one}
+use native.Mathlib.Omega.{arith}
+use mathlib.Core.List.{List, [], _∷_}
+use borrow.Author.Tests.{ltb-true, ltb-false, le-ltb, lt-ltb, eqb-true, eqb-false}
+use lib.Dec.{ltb, eqb}
+use lib.Seq.{length-take-le}
+use lib.ListN.{length, take, getD, length-take}
+use Rattle.tails.specs.Sum.{tally, times}
+use Rattle.tails.specs.Tails.{ending, sharedTails}
+use Rattle.tails.proofs.Tally.{tally-one}
+use Rattle.tails.proofs.Parts.{ending-whole}
+use Rattle.walk.specs.declared.Walk.{Walk}
+use Rattle.walk.specs.declared.Slot.{Slot}
+use Rattle.walk.specs.declared.Slot.the-variants.{Silent, Clashed, Clean}
+use Rattle.walk.specs.Marks.{deepest}
+use Rattle.walk.specs.Record.{places, mostRounds, running, complete, twins, full, remade, ended, counted, marked, atNextSlot, openedAt, opened}
+use Rattle.walk.specs.Hear.{endsAtOnce, noted, listNoted, turned, passed, walkAfter, listAfter}
+use Rattle.field.proofs.Steady.{Steady, open-not-last}
+use Rattle.field.proofs.Ahead.{slotTail, ahead, ahead-none, ahead-hear}
+use Rattle.field.proofs.Weights.{weigh, belowAt}
+use Rattle.field.proofs.AnyReplies.{alone}
+use Rattle.field.proofs.FixedField.{Fixed, slot-weight, note-fixed, next-fixed, open-fixed}
+use Rattle.field.proofs.NoOverrun.{rounds-below}
+use Rattle.field.proofs.Called.{called, slotOf}
+
+-- what an ended walk says of the UIDs us
+pub data Verdict (us : List ℕ) (w : Walk) (list : List ℕ) : Type 0 where
+  completes : w .ending ≡ complete → w .count ≤ 64 → ((v : ℕ → ℕ) → tally v (take (w .count) list) ≡ tally v us)
+      → ((u : ℕ) → times u (take (w .count) list) ≤ 1) → w .rounds ≡ 1 + sharedTails us → Verdict us w list
+  twin : w .ending ≡ twins → (u : ℕ) → 2 ≤ times u us → Verdict us w list
+  fills : w .ending ≡ full → 64 < length us → Verdict us w list
+
+-- level, mask, slot and family stay
+pub record Kept (w w' : Walk) : Type 0 where
+  pub level : w' .level ≡ w .level
+  pub mask : w' .mask ≡ w .mask
+  pub slot : w' .slot ≡ w .slot
+  pub family : w' .family ≡ w .family
+
+-- the walk w' that a slot leaves of w
+pub data Next (us : List ℕ) (w w' : Walk) (list' : List ℕ) : Type 0 where
+  moves : Fixed us w' list' (suc (w .slot)) → w .slot < 15 → w' .level ≡ w .level → w' .mask ≡ w .mask → w' .slot ≡ suc (w .slot)
+      → w' .family ≡ w .family → w' .ending ≡ w .ending → w' .rounds ≡ w .rounds → Next us w w' list'
+  opens : Fixed us w' list' 0 → w .slot ≡ 15 → w' .slot ≡ 0 → w' .family ≡ w .family → w' .ending ≡ w .ending → w' .rounds ≡ suc (w .rounds)
+      → Next us w w' list'
+  stops : {x : Walk} {t : ℕ} → Fixed us x list' t → Kept w x → (e : ℕ) → w' ≡ ended (suc e) x → Verdict us w' list' → Next us w w' list'
+
+kept : (w : Walk) → Kept w w
+kept w = record { level = refl; mask = refl; slot = refl; family = refl }
+
+pub noted-kept : (w : Walk) (slot : Slot) → Kept w (noted w slot)
+unfolding noted counted marked remade
+noted-kept w Silent = record { level = refl; mask = refl; slot = refl; family = refl }
+noted-kept w Clashed = record { level = refl; mask = refl; slot = refl; family = refl }
+noted-kept w (Clean u) = record { level = refl; mask = refl; slot = refl; family = refl }
+
+pub noted-rounds : (w : Walk) (slot : Slot) → noted w slot .rounds ≡ w .rounds
+unfolding noted counted marked remade
+noted-rounds w Silent = refl
+noted-rounds w Clashed = refl
+noted-rounds w (Clean u) = refl
+
+pub noted-ending : (w : Walk) (slot : Slot) → noted w slot .ending ≡ w .ending
+unfolding noted counted marked remade
+noted-ending w Silent = refl
+noted-ending w Clashed = refl
+noted-ending w (Clean u) = refl
+
+-- the next slot
+moves-after : (us : List ℕ) (w x : Walk) (list : List ℕ) → x .slot ≡ w .slot → Fixed us x list (suc (w .slot)) → Kept w x → x .rounds ≡ w .rounds
+    → x .ending ≡ w .ending → x .slot < 15 → Next us w (atNextSlot x) list
+unfolding atNextSlot remade
+moves-after us w x list s g k r e h =
+    moves (next-fixed us x list (suc (w .slot)) g) (rw (← s) h) (k .level) (k .mask) (add-one (x .slot) ∙ ap suc s) (k .family) e r
+
+-- the next round
+opens-after : (us : List ℕ) (w x : Walk) (list : List ℕ) → w .slot ≡ 15 → Fixed us x list 16 → Kept w x → x .rounds ≡ w .rounds
+    → x .ending ≡ w .ending → (j : ℕ) → deepest (x .marks) ≡ suc j → x .rounds < 481 → Next us w (opened x j) list
+unfolding opened openedAt remade
+opens-after us w x list h g k r e j d f =
+    opens (open-fixed us x list j g d (open-not-last x j (g .walks .steady) d) f) h refl (k .family) e (add-one (x .rounds) ∙ ap suc r)
+
+listed-few : (x : Walk) (list : List ℕ) → x .count ≤ 64 → length (take (x .count) list) ≤ 64
+listed-few x list h = rw (length-take (x .count) list) (omega arith)
+
+-- a round is over and nothing waits
+completes-after : (us : List ℕ) (w x : Walk) (list : List ℕ) → Fixed us x list 16 → Kept w x → deepest (x .marks) ≡ 0 → Next us w (ended complete x) list
+unfolding ended remade
+completes-after us w x list g k d =
+    let ls : List ℕ = take (x .count) list in
+    let verdict : Verdict us (ended complete x) list =
+    completes refl (g .walks .count-fits)
+    (λ v. let none = ahead-none (weigh v us) x d in omega (arith, none, g .weighed v))
+    (λ u. let most : times u ls + ahead (alone u) x 16 ≤ 1 = g .walks .single u in omega arith)
+    (let none = ahead-none (belowAt us) x d in omega (arith, none, g .tails)) in
+    stops g k 0 refl verdict
+
+-- a round is over: the next one is opened, since round 482 is never needed
+turns : (us : List ℕ) (w x : Walk) (list : List ℕ) → w .slot ≡ 15 → Fixed us x list 16 → Kept w x → x .rounds ≡ w .rounds → x .ending ≡ w .ending
+    → (n : ℕ) → deepest (x .marks) ≡ n → Next us w (turned x n) list
+unfolding turned mostRounds
+turns us w x list h g k r e zero d = completes-after us w x list g k d
+turns us w x list h g k r e (suc j) d =
+    let few : x .rounds ≤ 479 =
+    rounds-below us (take (x .count) list) x (g .walks .steady) (listed-few x list (g .walks .count-fits)) (g .weighed) (g .tails) in
+    rw (lt-ltb (x .rounds) 481 (omega arith)) (opens-after us w x list h g k r e j d (omega arith))
+
+-- the slot ends nothing at once
+passes : (us : List ℕ) (w x : Walk) (list : List ℕ) → w .slot < 16 → Fixed us x list (suc (w .slot)) → Kept w x → x .rounds ≡ w .rounds
+    → x .ending ≡ w .ending → Next us w (passed x) list
+unfolding passed
+passes us w x list h g k r e = go (ltb (x .slot) 15) refl
+  where
+    go : (b : Bool) → ltb (x .slot) 15 ≡ b → Next us w (cond b (atNextSlot x) (turned x (deepest (x .marks)))) list
+    go true f = moves-after us w x list (k .slot) g k r e (ltb-true (x .slot) 15 f)
+    go false f =
+        let after : 15 ≤ x .slot = ltb-false (x .slot) 15 f in
+        let last : w .slot ≡ 15 = let same = k .slot in omega (arith, same) in
+        turns us w x list last (subst (λ (t : ℕ). Fixed us x list t) (ap suc last) g) k r e (deepest (x .marks)) refl
+
+-- a clean UID with 64 listed: the slot's own weight is one more
+fills-at : (us : List ℕ) (x : ℕ) (w : Walk) (list : List ℕ) → w .slot < 16 → Fixed us w list (w .slot) → called us w ≡ x ∷ [] → 64 ≤ w .count
+    → Next us w (ended full w) list
+unfolding ended remade tally
+fills-at us x w list h g c m =
+    let v : ℕ → ℕ = λ u. 1 in
+    let all : tally v (take (w .count) list) + ahead (weigh v us) w (w .slot) ≡ tally v us = g .weighed v in
+    let heard = ahead-hear (weigh v us) w (w .slot) h in
+    let weight : weigh v us (suc (w .level)) (slotTail (w .level) (w .mask) (w .slot)) ≡ 1 = slot-weight v us (x ∷ []) w c in
+    let listed : tally v (take (w .count) list) ≡ w .count =
+    tally-one (take (w .count) list) ∙ length-take-le (w .count) list (let few = g .walks .count-fits in let many = g .walks .places-fit in omega (arith, few, many)) in
+    let number : tally v us ≡ length us = tally-one us in
+    stops g (kept w) 2 refl (fills refl (omega (arith, all, heard, weight, listed, number)))
+
+-- a clash at the last level: the slot's tail is a whole UID
+twins-at : (us : List ℕ) (x y : ℕ) (xs : List ℕ) (w : Walk) (list : List ℕ) → ((i : ℕ) → getD us i 0 < 16 ^ 16) → w .slot < 16
+    → Fixed us w list (w .slot) → called us w ≡ x ∷ y ∷ xs → 15 ≤ w .level → Next us w (ended twins w) list
+unfolding ended remade called
+twins-at us x y xs w list fits h g c m =
+    let tail : ℕ = slotTail (w .level) (w .mask) (w .slot) in
+    let last : suc (w .level) ≡ 16 = let least = g .walks .steady .level-fits in omega (arith, least) in
+    let alike : times tail us ≡ length (ending 16 tail us) = ending-whole us tail fits in
+    let two : length (ending 16 tail us) ≡ suc (suc (length xs)) =
+    ap (λ (n : ℕ). length (ending n tail us)) (sym last) ∙ ap (λ (l : List ℕ). length l) c in
+    stops g (kept w) 1 refl (twin refl tail (omega (arith, alike, two)))
+
+-- it ends the walk at once
+stops-at-once : (us xs : List ℕ) (w : Walk) (list : List ℕ) → ((i : ℕ) → getD us i 0 < 16 ^ 16) → w .slot < 16 → Fixed us w list (w .slot)
+    → called us w ≡ xs → (endsAtOnce w (slotOf xs) ≡ 0 → ⊥) → Next us w (ended (endsAtOnce w (slotOf xs)) w) list
+unfolding slotOf endsAtOnce places
+stops-at-once us [] w list fits h g c s = absurd (s refl)
+stops-at-once us (x ∷ []) w list fits h g c s = go (ltb (w .count) 64) refl s
+  where
+    go : (b : Bool) → ltb (w .count) 64 ≡ b → (_≡_ {A = ℕ} (cond b 0 3) 0 → ⊥) → Next us w (ended (cond b 0 3) w) list
+    go true e f = absurd (f refl)
+    go false e f = fills-at us x w list h g c (ltb-false (w .count) 64 e)
+stops-at-once us (x ∷ y ∷ xs) w list fits h g c s = go (ltb (w .level) 15) refl s
+  where
+    go : (b : Bool) → ltb (w .level) 15 ≡ b → (_≡_ {A = ℕ} (cond b 0 2) 0 → ⊥) → Next us w (ended (cond b 0 2) w) list
+    go true e f = absurd (f refl)
+    go false e f = twins-at us x y xs w list fits h g c (ltb-false (w .level) 15 e)
+
+pub slot-next : (us : List ℕ) (w : Walk) (list : List ℕ) → ((i : ℕ) → getD us i 0 < 16 ^ 16) → w .slot < 16 → Fixed us w list (w .slot)
+    → Next us w (walkAfter w (slotOf (called us w))) (listAfter w (slotOf (called us w)) list)
+unfolding walkAfter listAfter
+slot-next us w list fits h g = go (eqb (endsAtOnce w (slotOf (called us w))) 0) refl
+  where
+    s : Slot
+    s = slotOf (called us w)
+
+    go : (b : Bool) → eqb (endsAtOnce w s) 0 ≡ b
+        → Next us w (cond b (passed (noted w s)) (ended (endsAtOnce w s) w)) (cond b (listNoted w s list) list)
+    go true e =
+        passes us w (noted w s) (listNoted w s list) h (note-fixed us w list h g (eqb-true (endsAtOnce w s) 0 e)) (noted-kept w s) (noted-rounds w s)
+        (noted-ending w s)
+    go false e = stops-at-once us (called us w) w list fits h g refl (eqb-false (endsAtOnce w s) 0 e)

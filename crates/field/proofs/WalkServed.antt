@@ -1,0 +1,53 @@
+-- The walk's own two calls in a slot: hearing is not refused while it runs, and after an ending nothing is sent, heard or changed.
+-- By the tests of the refusals. Assumes nothing.
+use mathlib.Core.Path.{_≡_, refl, sym, ap, ap₂, _∙_}
+use mathlib.Core.Bool.{Bool, true, false, cond}
+use Prim.Native.Nat.{ℕ, zero, suc, _≤_, _<_}
+use native.Mathlib.Omega.{arith}
+use mathlib.Core.List.{List, [], _∷_}
+use borrow.Author.Tests.{le-leb}
+use lib.ListN.{length}
+use Rattle.lent.proofs.Over.{length-over}
+use Rattle.play.specs.Answer.{replyBytes}
+use Rattle.play.specs.Events.{answered, lengthTold, replied}
+use Rattle.walk.specs.declared.Walk.{Walk}
+use Rattle.walk.specs.declared.Kind.{Kind}
+use Rattle.walk.specs.declared.Send.{Send}
+use Rattle.walk.specs.declared.Send.the-variants.{Nothing, Mark, Request}
+use Rattle.walk.specs.Record.{places, isAccepted, isRunning}
+use Rattle.walk.specs.Hear as hear
+use Rattle.walk.specs.Hear.{judged, walkAfter, listAfter, Hearing, hearing}
+use Rattle.walk.specs.Ask as ask
+use Rattle.walk.specs.Ask.{sent, roomAsked, roomAfter, Asking, asking}
+use Rattle.field.specs.Field.{Tag, reached, tagAfter, tagsAfter}
+use Rattle.field.proofs.Requested.{request-most}
+
+pub walk-heard : (w : Walk) (kind : Kind) (bytes list : List ℕ) → isAccepted w ≡ true → isRunning w ≡ true → 64 ≤ length list
+    → hearing w kind bytes list ≡ record { walk = walkAfter w (judged w kind bytes); list = listAfter w (judged w kind bytes) list; number = 0 }
+unfolding hearing hear.refusal places
+walk-heard w kind bytes list e running h = rw (e, running, le-leb 64 (length list) h)
+
+-- the room keeps its length
+pub room-left : (w : Walk) (s : Send) (room : List ℕ) → w .level < 16 → 14 ≤ length room → length (roomAfter w s room) ≡ length room
+unfolding roomAfter
+room-left w Nothing room h g = refl
+room-left w Mark room h g = refl
+room-left w (Request n) room h g = length-over (ask.request w) room (omega (arith, request-most w h))
+
+-- ---- after an ending
+
+pub ended-heard : (w : Walk) (kind : Kind) (bytes list : List ℕ) → isAccepted w ≡ true → isRunning w ≡ false
+    → hearing w kind bytes list ≡ record { walk = w; list = list; number = 6 }
+unfolding hearing hear.refusal
+ended-heard w kind bytes list e ended = rw (e, ended)
+
+pub ended-asked : (w : Walk) (room : List ℕ) → isAccepted w ≡ true → isRunning w ≡ false
+    → asking w room ≡ record { room = room; number = 0; send = Nothing }
+unfolding asking ask.refusal sent roomAsked roomAfter
+ended-asked w room e ended = rw (e, ended, le-leb 0 (length room) (omega arith))
+
+-- nothing reaches the cards
+pub nothing-reached : (room : List ℕ) (ts : List Tag) → tagsAfter Nothing room ts ≡ ts
+unfolding tagsAfter tagAfter reached replied answered replyBytes
+nothing-reached room [] = refl
+nothing-reached room (t ∷ ts) = ap (λ (us : List Tag). t ∷ us) (nothing-reached room ts)

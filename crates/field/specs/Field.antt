@@ -1,0 +1,71 @@
+-- Demand 3: "a field of cards that obey demand 2 .. One reply arrives whole; two or more in a slot arrive as a clash."
+use Prim.Native.Nat.{ℕ, _^_, _<_}
+use mathlib.Core.Bool.{Bool, true, cond, not, _&&_}
+use mathlib.Core.List.{List, [], _∷_}
+use mathlib.Core.Path.{_≡_}
+use lib.Dec.{ltb, eqb}
+use lib.ListN.{length, take}
+use Rattle.card.specs.declared.Card.{Card}
+use Rattle.card.specs.declared.Reply.the-variants.{Silence}
+use Rattle.card.specs.Record.{isQuiet}
+use Rattle.card.specs.Inventory.{fitsFamily}
+use Rattle.play.specs.Refusal.{refusal}
+use Rattle.play.specs.Events.{Outcome, replied, frameEvent, markEvent}
+use Rattle.walk.specs.declared.Kind.{Kind}
+use Rattle.walk.specs.declared.Kind.the-variants as kind
+use Rattle.walk.specs.declared.Send.{Send}
+use Rattle.walk.specs.declared.Send.the-variants.{Nothing, Mark, Request}
+
+-- a card with its memory, its lock bytes and the room for its answer
+pub record Tag : Type 0 where
+  pub card : Card
+  pub memory : List ℕ
+  pub locks : List ℕ
+  pub room : List ℕ
+
+-- "card records that number 1 accepts, with memory, locks and room that 2, 3 and 4 accept"; a UID has 64 bits
+pub record Obeys (t : Tag) : Type 0 where
+  pub accepted : refusal (t .card) (length (t .memory)) (t .locks) (length (t .room)) ≡ 0
+  pub uid-fits : t .card .uid < 2 ^ 64
+
+-- 01, The card, step 3: Quiet is silent; "The card takes part if no AFI is present, the AFI is 00, or it equals the card's". A family from 256
+-- on is none
+unfoldable pub answers : ℕ → Card → Bool
+answers family c = not (isQuiet (c .mode)) && cond (ltb family 256) (fitsFamily family (c .afi)) true
+
+-- the UIDs of the cards that answer a family
+unfoldable pub answering : ℕ → List Tag → List ℕ
+answering family [] = []
+answering family (t ∷ ts) = cond (answers family (t .card)) (t .card .uid ∷ answering family ts) (answering family ts)
+
+-- what is sent reaches a card: a request of n bytes, a slot mark, or nothing
+unfoldable pub reached : Send → List ℕ → Tag → Outcome
+reached Nothing sent t = replied (t .card) (t .memory) (t .locks) Silence (t .room)
+reached Mark sent t = markEvent (t .card) (t .memory) (t .locks) (t .room)
+reached (Request n) sent t = frameEvent (t .card) (take n sent) (t .memory) (t .locks) (t .room)
+
+-- the card after it, and all cards
+unfoldable pub tagAfter : Outcome → Tag
+tagAfter o = record { card = o .card; memory = o .memory; locks = o .locks; room = o .answer }
+
+unfoldable pub tagsAfter : Send → List ℕ → List Tag → List Tag
+tagsAfter send sent [] = []
+tagsAfter send sent (t ∷ ts) = tagAfter (reached send sent t) ∷ tagsAfter send sent ts
+
+-- the answers of those that are not silent
+unfoldable pub replies : Send → List ℕ → List Tag → List (List ℕ)
+replies send sent [] = []
+replies send sent (t ∷ ts) =
+    let o : Outcome = reached send sent t in
+    cond (eqb (o .told) 0) (replies send sent ts) (take (o .told) (o .answer) ∷ replies send sent ts)
+
+-- what arrives
+unfoldable pub kindOf : List (List ℕ) → Kind
+kindOf [] = kind.Silence
+kindOf (r ∷ []) = kind.Bytes
+kindOf (r ∷ s ∷ rs) = kind.Clash
+
+unfoldable pub bytesOf : List (List ℕ) → List ℕ
+bytesOf [] = []
+bytesOf (r ∷ []) = r
+bytesOf (r ∷ s ∷ rs) = []

@@ -1,0 +1,32 @@
+-- Demand 3: "Let a fresh walk hear a field of cards": slot after slot, each thing that the walk sends reaching every card.
+use Prim.Native.Nat.{ℕ, zero, suc}
+use mathlib.Core.List.{List}
+use Rattle.walk.specs.declared.Walk.{Walk}
+use Rattle.walk.specs.declared.Kind.{Kind}
+use Rattle.walk.specs.Record.{started}
+use Rattle.walk.specs.Hear.{Hearing, hearing}
+use Rattle.walk.specs.Ask.{Asking, asking}
+use Rattle.field.specs.Field.{Tag, tagsAfter, replies, kindOf, bytesOf}
+
+-- all that stands on the desk: the walk, its list, the room for what it sends, and the cards
+pub record Play : Type 0 where
+  pub walk : Walk
+  pub list : List ℕ
+  pub room : List ℕ
+  pub tags : List Tag
+
+-- a slot: the walk is asked, what it says is sent, and what arrives is heard
+unfoldable pub slotPlayed : Play → Play
+slotPlayed p =
+    let a : Asking = asking (p .walk) (p .room) in
+    let rs : List (List ℕ) = replies (a .send) (a .room) (p .tags) in
+    let h : Hearing = hearing (p .walk) (kindOf rs) (bytesOf rs) (p .list) in
+    record { walk = h .walk; list = h .list; room = a .room; tags = tagsAfter (a .send) (a .room) (p .tags) }
+
+unfoldable pub playedFor : ℕ → Play → Play
+playedFor zero p = p
+playedFor (suc n) p = playedFor n (slotPlayed p)
+
+-- "a fresh walk"
+unfoldable pub fresh : ℕ → List ℕ → List ℕ → List Tag → Play
+fresh family list room tags = record { walk = started family; list = list; room = room; tags = tags }

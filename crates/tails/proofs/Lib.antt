@@ -1,0 +1,7 @@
+pub mod Sums
+pub mod Tally
+pub mod Digits
+pub mod Parts
+pub mod Below
+pub mod Bounds
+pub mod Deeper

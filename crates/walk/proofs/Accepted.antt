@@ -1,0 +1,136 @@
+-- Every record that a walk reaches is one that number 10 accepts: the first is, and after each slot, of any kind, it stays so, ended or not.
+-- By what each change does to the eight facts of an accepted record. Assumes nothing.
+use mathlib.Core.Path.{_≡_, refl}
+use mathlib.Core.Bool.{Bool, true, false, cond}
+use Prim.Native.Nat.{ℕ, zero, suc, _+_, _<_}
+use native.Mathlib.Omega.{arith}
+use borrow.Author.Tests.{ltb-true, eqb-true}
+use lib.Dec.{ltb, eqb}
+use lib.ListN.{getD}
+use Rattle.walk.specs.declared.Walk.{Walk}
+use Rattle.walk.specs.declared.Slot.{Slot}
+use Rattle.walk.specs.declared.Slot.the-variants.{Silent, Clashed, Clean}
+use Rattle.walk.specs.Marks.{levels, deepestOf, deepest, withMark, withoutMark, lowest}
+use Rattle.walk.specs.Record.{places, mostRounds, maskLength, marksFit, isAccepted}
+use Rattle.walk.specs.Record.{remade, ended, counted, marked, atNextSlot, openedAt, opened, noMarks, started}
+use Rattle.walk.specs.Hear.{endsAtOnce, noted, turned, passed, walkAfter}
+use Rattle.walk.proofs.Levels.{lowest-is-slot, deepest-set}
+use Rattle.walk.proofs.Limits.{Accepted, accepted-of-is-accepted, is-accepted-of-accepted, opened-mask-fits}
+use Rattle.walk.proofs.HearWays.{clash-goes-on, clean-goes-on}
+
+pub started-accepted : (family : ℕ) → isAccepted (started family) ≡ true
+unfolding isAccepted started noMarks marksFit deepest deepestOf levels places mostRounds maskLength
+started-accepted family = refl
+
+-- by a test, either way
+by-test : (b : Bool) (x y : Walk) → (b ≡ true → Accepted x) → (b ≡ false → Accepted y) → Accepted (cond b x y)
+by-test true x y p q = p refl
+by-test false x y p q = q refl
+
+module _ (w : Walk) (a : Accepted w) where
+  ended-facts : (ending : ℕ) → Accepted (ended ending w)
+  unfolding ended remade
+  ended-facts ending =
+      record {
+        level = a .level;
+        slot = a .slot;
+        count = a .count;
+        first-round = a .first-round;
+        last-round = a .last-round;
+        mask = a .mask;
+        own-level = a .own-level;
+        last-level = a .last-level;
+      }
+
+  counted-facts : w .count < 64 → Accepted (counted w)
+  unfolding counted remade
+  counted-facts h =
+      record {
+        level = a .level;
+        slot = a .slot;
+        count = omega arith;
+        first-round = a .first-round;
+        last-round = a .last-round;
+        mask = a .mask;
+        own-level = a .own-level;
+        last-level = a .last-level;
+      }
+
+  marked-facts : w .level < 15 → Accepted (marked w)
+  unfolding marked remade
+  marked-facts h =
+      let m : ℕ = withMark (getD (w .marks) (w .level) 0) (w .slot) in
+      let own = deepest-set (w .marks) (w .level) m (w .level + 1) (omega arith) (a .own-level) in
+      record {
+        level = a .level;
+        slot = a .slot;
+        count = a .count;
+        first-round = a .first-round;
+        last-round = a .last-round;
+        mask = a .mask;
+        own-level = own;
+        last-level = omega (arith, own);
+      }
+
+  next-slot-facts : w .slot < 15 → Accepted (atNextSlot w)
+  unfolding atNextSlot remade
+  next-slot-facts h =
+      record {
+        level = a .level;
+        slot = omega arith;
+        count = a .count;
+        first-round = a .first-round;
+        last-round = a .last-round;
+        mask = a .mask;
+        own-level = a .own-level;
+        last-level = a .last-level;
+      }
+
+  opened-facts : (j : ℕ) → deepest (w .marks) ≡ suc j → w .rounds < 481 → Accepted (opened w j)
+  unfolding opened openedAt remade
+  opened-facts j is h =
+      let s : ℕ = lowest (getD (w .marks) j 0) in
+      let below : suc j < 16 = rw (← is) (a .last-level) in
+      let own = deepest-set (w .marks) j (withoutMark (getD (w .marks) j 0) s) (j + 1) (omega arith) (omega arith) in
+      record {
+        level = omega arith;
+        slot = omega arith;
+        count = a .count;
+        first-round = omega arith;
+        last-round = omega arith;
+        mask = opened-mask-fits (w .mask) j s (lowest-is-slot (getD (w .marks) j 0));
+        own-level = omega (arith, own);
+        last-level = omega (arith, own);
+      }
+
+  turned-facts : (n : ℕ) → deepest (w .marks) ≡ n → Accepted (turned w n)
+  unfolding turned mostRounds
+  turned-facts zero is = ended-facts 1
+  turned-facts (suc j) is =
+      by-test (ltb (w .rounds) 481) (opened w j) (ended 4 w) (λ e. opened-facts j is (ltb-true (w .rounds) 481 e)) (λ e. ended-facts 4)
+
+  passed-facts : Accepted (passed w)
+  unfolding passed
+  passed-facts =
+      by-test (ltb (w .slot) 15) (atNextSlot w) (turned w (deepest (w .marks))) (λ e. next-slot-facts (ltb-true (w .slot) 15 e))
+      (λ e. turned-facts (deepest (w .marks)) refl)
+
+  noted-facts : (slot : Slot) → endsAtOnce w slot ≡ 0 → Accepted (noted w slot)
+  unfolding noted
+  noted-facts Silent e = a
+  noted-facts Clashed e = marked-facts (clash-goes-on w {slot = Clashed} refl e)
+  noted-facts (Clean uid) e = counted-facts (clean-goes-on w {slot = Clean uid} {uid = uid} refl e)
+
+after-facts : (w : Walk) → Accepted w → (slot : Slot) → Accepted (walkAfter w slot)
+unfolding walkAfter
+after-facts w a slot =
+    by-test (eqb (endsAtOnce w slot) 0) (passed (noted w slot)) (ended (endsAtOnce w slot) w)
+    (λ e. passed-facts (noted w slot) (noted-facts w a slot (eqb-true (endsAtOnce w slot) 0 e))) (λ e. ended-facts w a (endsAtOnce w slot))
+
+-- after a slot
+pub after-accepted : (w : Walk) (slot : Slot) → isAccepted w ≡ true → isAccepted (walkAfter w slot) ≡ true
+after-accepted w slot h = is-accepted-of-accepted (walkAfter w slot) (after-facts w (accepted-of-is-accepted w h) slot)
+
+-- with any ending
+pub ended-accepted : (w : Walk) (ending : ℕ) → isAccepted w ≡ true → isAccepted (ended ending w) ≡ true
+ended-accepted w ending h = is-accepted-of-accepted (ended ending w) (ended-facts w (accepted-of-is-accepted w h) ending)

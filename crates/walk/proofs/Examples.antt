@@ -1,0 +1,88 @@
+-- 01's examples of the walk, by computation and by the tests of the definitions: the empty field, and the three numbers 481, 64 and 15.
+-- Assumes nothing.
+use mathlib.Core.Path.{_≡_, refl, ap, _∙_}
+use mathlib.Core.List.{List, []}
+use Prim.Native.Nat.{ℕ, zero, suc, _≤_, _<_}
+use native.Mathlib.Numerals.{add-one}
+use native.Mathlib.Omega.{arith}
+use borrow.Author.Tests.{le-leb, lt-ltb}
+use lib.ListN.{length}
+use Rattle.walk.specs.declared.Walk.{Walk}
+use Rattle.walk.specs.declared.Kind.the-variants.{Silence}
+use Rattle.walk.specs.declared.Slot.the-variants.{Silent, Clashed, Clean}
+use Rattle.walk.specs.Marks.{levels, deepestOf, deepest}
+use Rattle.walk.specs.Record.{places, mostRounds, maskLength, complete, twins, full, overrun, isRunning, marksFit, isAccepted}
+use Rattle.walk.specs.Record.{remade, ended, counted, marked, atNextSlot, opened, noMarks, started}
+use Rattle.walk.specs.Hear.{judged, endsAtOnce, noted, listNoted, turned, passed, walkAfter, listAfter, refusal, Hearing, hearing}
+
+-- n silent slots heard one after another, with a list
+unfoldable pub silentSlots : ℕ → Walk → List ℕ → Hearing
+silentSlots zero w list = record { walk = w; list = list; number = 0 }
+silentSlots (suc n) w list = hearing (silentSlots n w list .walk) Silence [] (silentSlots n w list .list)
+
+-- a fresh walk at a later slot of its first round, and at its end
+abbrev pub atSlot : ℕ → ℕ → ℕ → Walk
+atSlot family slot ending =
+    record { mask = 0; marks = noMarks; rounds = 1; family = family; level = 0; slot = slot; count = 0; ending = ending }
+
+pub record Walks : Type 0 where
+  -- "an empty field: complete, rounds 1": with any family, nothing listed
+  pub empty-field : (family : ℕ) (list : List ℕ) → 64 ≤ length list
+      → silentSlots 16 (started family) list ≡ record { walk = atSlot family 15 complete; list = list; number = 0 }
+  -- "overrun (round 482 would be needed)": not after round 480, but after 481
+  pub round-481-opens : (w : Walk) (j : ℕ) → w .slot ≡ 15 → w .rounds ≡ 480 → deepest (w .marks) ≡ suc j → walkAfter w Silent ≡ opened w j
+  pub round-482-overruns : (w : Walk) (j : ℕ) → w .slot ≡ 15 → w .rounds ≡ 481 → deepest (w .marks) ≡ suc j → walkAfter w Silent ≡ ended overrun w
+  -- "full (a clean UID with 64 listed, at once)"
+  pub place-64-taken : (w : Walk) (uid : ℕ) → w .count ≡ 63 → walkAfter w (Clean uid) ≡ passed (counted w)
+  pub no-place-65 : (w : Walk) (uid : ℕ) → w .count ≡ 64 → walkAfter w (Clean uid) ≡ ended full w
+  -- "twins (a clash at k=15, at once)"
+  pub level-14-marked : (w : Walk) → w .level ≡ 14 → walkAfter w Clashed ≡ passed (marked w)
+  pub level-15-twins : (w : Walk) → w .level ≡ 15 → walkAfter w Clashed ≡ ended twins w
+
+-- the slots of the first round
+slot-accepted : (family slot : ℕ) → slot ≤ 15 → isAccepted (atSlot family slot 0) ≡ true
+unfolding isAccepted marksFit deepest deepestOf noMarks levels places mostRounds maskLength
+slot-accepted family slot h = rw (le-leb slot 15 h)
+
+-- one silent slot
+silent-next : (family slot : ℕ) (list : List ℕ) → 64 ≤ length list → slot < 15
+    → hearing (atSlot family slot 0) Silence [] list ≡ record { walk = atSlot family (suc slot) 0; list = list; number = 0 }
+unfolding hearing refusal places isRunning judged endsAtOnce walkAfter listAfter noted listNoted passed atNextSlot remade
+silent-next family slot list h k =
+    rw (slot-accepted family slot (omega arith), le-leb 64 (length list) h, lt-ltb slot 15 k, add-one slot)
+
+silent-last : (family : ℕ) (list : List ℕ) → 64 ≤ length list
+    → hearing (atSlot family 15 0) Silence [] list ≡ record { walk = atSlot family 15 complete; list = list; number = 0 }
+unfolding hearing refusal places isRunning judged endsAtOnce walkAfter listAfter noted listNoted passed turned deepest deepestOf noMarks levels ended remade
+silent-last family list h = rw (slot-accepted family 15 (omega arith), le-leb 64 (length list) h)
+
+silent-slots : (family n : ℕ) (list : List ℕ) → 64 ≤ length list → n ≤ 15
+    → silentSlots n (started family) list ≡ record { walk = atSlot family n 0; list = list; number = 0 }
+unfolding silentSlots started
+silent-slots family zero list h k = refl
+silent-slots family (suc n) list h k =
+    ap (λ (x : Hearing). hearing (x .walk) Silence [] (x .list)) (silent-slots family n list h (omega arith))
+    ∙ silent-next family n list h (omega arith)
+
+all-silent : (family : ℕ) (list : List ℕ) → 64 ≤ length list
+    → silentSlots 16 (started family) list ≡ record { walk = atSlot family 15 complete; list = list; number = 0 }
+unfolding silentSlots
+all-silent family list h =
+    ap (λ (x : Hearing). hearing (x .walk) Silence [] (x .list)) (silent-slots family 15 list h (omega arith)) ∙ silent-last family list h
+
+last-slot : (w : Walk) → w .slot ≡ 15 → walkAfter w Silent ≡ turned w (deepest (w .marks))
+unfolding walkAfter endsAtOnce noted passed
+last-slot w e = rw e
+
+pub walks : Walks
+unfolding walkAfter endsAtOnce noted turned places mostRounds
+walks =
+    record {
+      empty-field = all-silent;
+      round-481-opens = λ w j s r d. last-slot w s ∙ rw (d, r);
+      round-482-overruns = λ w j s r d. last-slot w s ∙ rw (d, r);
+      place-64-taken = λ w uid e. rw e;
+      no-place-65 = λ w uid e. rw e;
+      level-14-marked = λ w e. rw e;
+      level-15-twins = λ w e. rw e;
+    }

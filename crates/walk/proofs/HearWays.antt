@@ -1,0 +1,112 @@
+-- The ways out of hearing a slot: refused, ended at once, or noted and passed. By the tests of the definitions. Assumes nothing.
+use mathlib.Core.Path.{_≡_, refl, sym, ap, _∙_}
+use mathlib.Core.Bool.{Bool, true, false, cond}
+use mathlib.Core.List.{List}
+use Prim.Native.Nat.{ℕ, suc, _-_, _≤_, _<_}
+use native.Mathlib.Omega.{arith}
+use borrow.Author.Tests.{lt-ltb, le-ltb, ltb-true, leb-true, ne-eqb}
+use lib.Dec.{leb, ltb, eqb}
+use lib.ListN.{length, getD}
+use Rattle.walk.specs.declared.Walk.{Walk}
+use Rattle.walk.specs.declared.Kind.{Kind}
+use Rattle.walk.specs.declared.Slot.{Slot}
+use Rattle.walk.specs.declared.Slot.the-variants.{Silent, Clashed, Clean}
+use Rattle.walk.specs.Marks.{deepest, withMark}
+use Rattle.walk.specs.Record.{places, mostRounds, isRunning, isAccepted, remade, ended, counted, marked, opened}
+use Rattle.walk.specs.Hear.{judged, endsAtOnce, noted, listNoted, turned, passed, walkAfter, listAfter, After, refusal, hearing, Hears}
+use Rattle.walk.proofs.Levels.{deepest-set}
+use Rattle.walk.proofs.Limits.{accepted-of-is-accepted}
+
+-- ---- a slot that ends nothing at once
+
+-- by a test whose other way is another number
+below-of-cond : (a b n : ℕ) → (n ≡ 0 → ⊥) → cond (ltb a b) 0 n ≡ 0 → a < b
+below-of-cond a b n other e = go (ltb a b) refl e
+  where
+    go : (t : Bool) → ltb a b ≡ t → cond t 0 n ≡ 0 → a < b
+    go true is e = ltb-true a b is
+    go false is e = absurd (other e)
+
+pub clash-goes-on : (w : Walk) {slot : Slot} → slot ≡ Clashed → endsAtOnce w slot ≡ 0 → w .level < 15
+unfolding endsAtOnce
+clash-goes-on w is e = below-of-cond (w .level) 15 2 (λ h. omega arith) (sym (ap (λ (s : Slot). endsAtOnce w s) is) ∙ e)
+
+pub clean-goes-on : (w : Walk) {slot : Slot} {uid : ℕ} → slot ≡ Clean uid → endsAtOnce w slot ≡ 0 → w .count < 64
+unfolding endsAtOnce places
+clean-goes-on w is e = below-of-cond (w .count) 64 3 (λ h. omega arith) (sym (ap (λ (s : Slot). endsAtOnce w s) is) ∙ e)
+
+-- no mark at the last level then
+pub noted-deepest : (w : Walk) (slot : Slot) → isAccepted w ≡ true → endsAtOnce w slot ≡ 0 → deepest (noted w slot .marks) < 16
+unfolding noted counted marked remade
+noted-deepest w Silent h e = accepted-of-is-accepted w h .last-level
+noted-deepest w Clashed h e =
+    let level : w .level < 15 = clash-goes-on w {slot = Clashed} refl e in
+    let last : deepest (w .marks) < 16 = accepted-of-is-accepted w h .last-level in
+    omega (arith, deepest-set (w .marks) (w .level) (withMark (getD (w .marks) (w .level) 0) (w .slot)) 15 level (omega arith))
+noted-deepest w (Clean uid) h e = accepted-of-is-accepted w h .last-level
+
+-- ---- after slot 15
+
+pub turned-complete : (w : Walk) (n : ℕ) → n ≡ 0 → turned w n ≡ ended 1 w
+unfolding turned
+turned-complete w n e = rw e
+
+pub turned-opened : (w : Walk) (n : ℕ) → (n ≡ 0 → ⊥) → w .rounds < 481 → turned w n ≡ opened w (n - 1)
+unfolding turned mostRounds
+turned-opened w n h k =
+    let one : n ≡ suc (n - 1) = omega arith in
+    ap (λ (m : ℕ). turned w m) one ∙ rw (lt-ltb (w .rounds) 481 k)
+
+pub turned-overrun : (w : Walk) (n : ℕ) → (n ≡ 0 → ⊥) → 481 ≤ w .rounds → turned w n ≡ ended 4 w
+unfolding turned mostRounds
+turned-overrun w n h k =
+    let one : n ≡ suc (n - 1) = omega arith in
+    ap (λ (m : ℕ). turned w m) one ∙ rw (le-ltb (w .rounds) 481 k)
+
+-- ---- what a slot leaves behind
+
+pub after-ending : (w : Walk) (slot : Slot) (list : List ℕ) (n : ℕ) (r : Walk) → n ≡ endsAtOnce w slot → (n ≡ 0 → ⊥) → r ≡ ended n w
+    → After (walkAfter w slot) (listAfter w slot list) r list
+unfolding walkAfter listAfter
+after-ending w slot list n r is h e =
+    let other : eqb (endsAtOnce w slot) 0 ≡ false = rw (← is) (ne-eqb n 0 h) in
+    record { walk-left = rw (other, ← is) e; list-left = rw other }
+
+pub after-passing : (w : Walk) (slot : Slot) (list : List ℕ) (r : Walk) (left : List ℕ) → endsAtOnce w slot ≡ 0 → r ≡ passed (noted w slot)
+    → left ≡ listNoted w slot list → After (walkAfter w slot) (listAfter w slot list) r left
+unfolding walkAfter listAfter
+after-passing w slot list r left is e f = record { walk-left = rw is e; list-left = rw is f }
+
+-- ---- the call
+
+-- a call that is not refused
+pub record Served (w : Walk) (room : ℕ) : Type 0 where
+  pub accepted : isAccepted w ≡ true
+  pub runs : isRunning w ≡ true
+  pub list : 64 ≤ room
+
+pub served-of-refusal : (w : Walk) (room n : ℕ) → n ≡ refusal w room → n ≡ 0 → Served w room
+unfolding refusal places
+served-of-refusal w room n is e = go (isAccepted w) (isRunning w) (leb 64 room) refl refl refl (sym is ∙ e)
+  where
+    go : (a b c : Bool) → isAccepted w ≡ a → isRunning w ≡ b → leb 64 room ≡ c → _≡_ {A = ℕ} (cond a (cond b (cond c 0 5) 6) 10) 0
+        → Served w room
+    go true true true p q u e = record { accepted = p; runs = q; list = leb-true 64 room u }
+    go true true false p q u e = absurd (omega arith)
+    go true false c p q u e = absurd (omega arith)
+    go false b c p q u e = absurd (omega arith)
+
+pub hears-refused : (w : Walk) (kind : Kind) (bytes list : List ℕ) (n : ℕ) → n ≡ refusal w (length list) → (n ≡ 0 → ⊥)
+    → Hears (hearing w kind bytes list) (record { walk = w; number = n }) list
+unfolding hearing
+hears-refused w kind bytes list n is h =
+    let other : eqb (refusal w (length list)) 0 ≡ false = rw (← is) (ne-eqb n 0 h) in
+    record { walk = rw other; number = rw (other, ← is); list-left = rw other }
+
+pub hears-served : (w : Walk) (kind : Kind) (bytes list : List ℕ) (n : ℕ) (slot : Slot) (r : Walk) (left : List ℕ) → n ≡ refusal w (length list)
+    → n ≡ 0 → slot ≡ judged w kind bytes → After (walkAfter w slot) (listAfter w slot list) r left
+    → Hears (hearing w kind bytes list) (record { walk = r; number = 0 }) left
+unfolding hearing
+hears-served w kind bytes list n slot r left is e heard after =
+    let served : refusal w (length list) ≡ 0 = sym is ∙ e in
+    record { walk = rw (served, ← heard) (after .walk-left); number = rw served; list-left = rw (served, ← heard) (after .list-left) }

@@ -1,0 +1,125 @@
+-- Laws of the clash marks: a level's number stays within sixteen bits, the lowest mark is one of sixteen slots, and a store at one level
+-- moves the deepest no further than that level. By the bits below and above a slot, and by induction over slots and levels. Assumes nothing.
+use mathlib.Core.Path.{_≡_, sym, ap, _∙_}
+use mathlib.Core.Bool.{Bool, true, false, cond}
+use mathlib.Core.List.{List}
+use Prim.Native.Nat.{ℕ, zero, suc, _+_, _-_, _*_, _/_, _%_, _^_, _≤_, _<_}
+use native.Mathlib.Nat.{div-eq-of-lt, mod-lt, mul-le-mul-right, add-mul}
+use native.Mathlib.Decide.{decLt}
+use native.Mathlib.Omega.{arith}
+use borrow.Author.Tests.{eqb-true, eqb-false, eq-eqb, ne-eqb}
+use lib.Dec.{eqb}
+use lib.ListN.{getD, set}
+use lib.Pow.{pow-pos, pow-add, shl-exact, shr-lt, split}
+use lib.Seq.{getD-set-other}
+use Rattle.walk.specs.Marks.{levels, waits, lowestFrom, lowest, deepestOf, deepest}
+
+-- ---- one level's number
+
+-- the number of one slot
+pub power-at : (s : ℕ) → s < 16 → 1 * 2 ^ s % 65536 ≡ 2 ^ s
+power-at s h = shl-exact {a = 1} 1 s 16 (omega arith) (omega arith) ∙ omega arith
+
+-- a mark more
+pub mark-fits : (m s : ℕ) → m < 65536 → s < 16 → waits m s ≡ false → m + 2 ^ s < 65536
+unfolding waits
+mark-fits m s h k e =
+    let q : ℕ = m / 2 ^ s in
+    let places : suc (15 - s) + s ≡ 16 = omega arith in
+    let whole : 2 ^ suc (15 - s) * 2 ^ s ≡ 65536 = sym (pow-add 2 (suc (15 - s)) s) ∙ ap (λ (n : ℕ). 2 ^ n) places in
+    let inside : m < 2 ^ (suc (15 - s) + s) = rw places h in
+    let above : q < 2 ^ suc (15 - s) = shr-lt (suc (15 - s)) s inside in
+    let even : q % 2 ≡ 1 → ⊥ = eqb-false (q % 2) 1 e in
+    let next : q + 2 ≤ 2 ^ suc (15 - s) = omega arith in
+    let top : (q + 2) * 2 ^ s ≤ 65536 = rw whole at (mul-le-mul-right (2 ^ s) next) in
+    let parts : (q + 2) * 2 ^ s ≡ q * 2 ^ s + 2 * 2 ^ s = add-mul q 2 (2 ^ s) in
+    let rest : m % 2 ^ s < 2 ^ s = mod-lt m (pow-pos s) in
+    omega (arith, split m s)
+
+-- a mark that is there
+pub mark-stands : (m s : ℕ) → waits m s ≡ true → 2 ^ s ≤ m
+unfolding waits
+mark-stands m s e = go (decLt m (2 ^ s))
+  where
+    go : Dec (m < 2 ^ s) → 2 ^ s ≤ m
+    go (yes h) =
+        let none : m / 2 ^ s ≡ 0 = div-eq-of-lt h in
+        let odd : m / 2 ^ s % 2 ≡ 1 = eqb-true (m / 2 ^ s % 2) 1 e in
+        absurd (omega arith)
+    go (no h) = omega arith
+
+-- ---- the lowest mark
+
+lowest-from-most : (m s n : ℕ) → lowestFrom m s n ≤ s + n
+unfolding lowestFrom
+lowest-from-most m s zero = omega arith
+lowest-from-most m s (suc n) = go (waits m s) (lowest-from-most m (suc s) n)
+  where
+    go : (t : Bool) → lowestFrom m (suc s) n ≤ suc s + n → cond t s (lowestFrom m (suc s) n) ≤ s + suc n
+    go true h = omega arith
+    go false h = omega arith
+
+pub lowest-is-slot : (m : ℕ) → lowest m < 16
+unfolding lowest
+lowest-is-slot m = omega (arith, lowest-from-most m 0 15)
+
+-- with so many slots left before the last: it is this slot, or else among those after it
+pub lowest-here : (m left : ℕ) → 0 < left → waits m (15 - left) ≡ true → lowestFrom m (15 - left) left ≡ 15 - left
+unfolding lowestFrom
+lowest-here m left h e =
+    let one : left ≡ suc (left - 1) = omega arith in
+    ap (λ (n : ℕ). lowestFrom m (15 - left) n) one ∙ rw e
+
+pub lowest-next : (m left : ℕ) → 0 < left → left ≤ 15 → waits m (15 - left) ≡ false
+    → lowestFrom m (15 - left) left ≡ lowestFrom m (15 - (left - 1)) (left - 1)
+unfolding lowestFrom
+lowest-next m left h k e =
+    let one : left ≡ suc (left - 1) = omega arith in
+    let next : suc (15 - left) ≡ 15 - (left - 1) = omega arith in
+    ap (λ (n : ℕ). lowestFrom m (15 - left) n) one ∙ rw (e, next)
+
+-- ---- the deepest level
+
+-- it is this level, or else among those before it
+pub deepest-here : (marks : List ℕ) (n : ℕ) → 0 < n → (getD marks (n - 1) 0 ≡ 0 → ⊥) → deepestOf marks n ≡ n - 1 + 1
+unfolding deepestOf
+deepest-here marks n h e =
+    let one : n ≡ suc (n - 1) = omega arith in
+    ap (λ (k : ℕ). deepestOf marks k) one ∙ rw (ne-eqb (getD marks (n - 1) 0) 0 e) (omega arith)
+
+pub deepest-before : (marks : List ℕ) (n : ℕ) → 0 < n → getD marks (n - 1) 0 ≡ 0 → deepestOf marks n ≡ deepestOf marks (n - 1)
+unfolding deepestOf
+deepest-before marks n h e =
+    let one : n ≡ suc (n - 1) = omega arith in
+    ap (λ (k : ℕ). deepestOf marks k) one ∙ rw (eq-eqb (getD marks (n - 1) 0) 0 e)
+
+pub deepest-of-most : (marks : List ℕ) (n : ℕ) → deepestOf marks n ≤ n
+unfolding deepestOf
+deepest-of-most marks zero = omega arith
+deepest-of-most marks (suc n) = go (eqb (getD marks n 0) 0) (deepest-of-most marks n)
+  where
+    go : (t : Bool) → deepestOf marks n ≤ n → cond t (deepestOf marks n) (suc n) ≤ suc n
+    go true h = omega arith
+    go false h = omega arith
+
+-- a bound kept by both ways of a test
+cond-below : (t : Bool) (a b c k : ℕ) → (a ≤ k → b ≤ k) → cond t a c ≤ k → cond t b c ≤ k
+cond-below true a b c k f h = f h
+cond-below false a b c k f h = h
+
+-- a store at a level before k
+deepest-of-set : (marks : List ℕ) (level m k n : ℕ) → level < k → deepestOf marks n ≤ k → deepestOf (set marks level m) n ≤ k
+unfolding deepestOf
+deepest-of-set marks level m k zero h d = omega arith
+deepest-of-set marks level m k (suc n) h d = go (λ e. deepest-of-set marks level m k n h e) (decLt n k)
+  where
+    go : (deepestOf marks n ≤ k → deepestOf (set marks level m) n ≤ k) → Dec (n < k)
+        → cond (eqb (getD (set marks level m) n 0) 0) (deepestOf (set marks level m) n) (suc n) ≤ k
+    go before (yes g) = omega (arith, deepest-of-most (set marks level m) (suc n))
+    go before (no g) =
+        rw (getD-set-other marks level n m 0 (λ e. g (omega arith)))
+        (cond-below (eqb (getD marks n 0) 0) (deepestOf marks n) (deepestOf (set marks level m) n) (suc n) k before d)
+
+pub deepest-set : (marks : List ℕ) (level m k : ℕ) → level < k → deepest marks ≤ k → deepest (set marks level m) ≤ k
+unfolding levels deepest
+deepest-set marks level m k h d = deepest-of-set marks level m k 16 h d

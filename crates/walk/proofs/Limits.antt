@@ -1,0 +1,80 @@
+-- What an accepted record is, test by test, both ways; and how far an opened mask reaches. By the tests of the definition.
+-- Assumes nothing.
+use mathlib.Core.Path.{_≡_}
+use mathlib.Core.Bool.{true, and-eq-true-iff}
+use Prim.Native.Nat.{ℕ, _+_, _*_, _%_, _^_, _≤_, _<_}
+use native.Mathlib.Nat.{mod-lt, mul-le-mul-right}
+use native.Mathlib.Omega.{arith}
+use borrow.Author.Tests.{leb-true, ltb-true, le-leb, lt-ltb}
+use lib.Dec.{leb, ltb}
+use lib.Pow.{pow-pos, pow-mono, pow-add}
+use Rattle.walk.specs.declared.Walk.{Walk}
+use Rattle.walk.specs.Marks.{levels, deepest}
+use Rattle.walk.specs.Record.{places, mostRounds, maskLength, marksFit, isAccepted, openedMask}
+
+pub record Accepted (w : Walk) : Type 0 where
+  pub level : w .level < 16
+  pub slot : w .slot ≤ 15
+  pub count : w .count ≤ 64
+  pub first-round : 1 ≤ w .rounds
+  pub last-round : w .rounds ≤ 481
+  pub mask : w .mask < 2 ^ maskLength (w .level)
+  pub own-level : deepest (w .marks) ≤ w .level + 1
+  pub last-level : deepest (w .marks) < 16
+
+pub accepted-of-is-accepted : (w : Walk) → isAccepted w ≡ true → Accepted w
+unfolding isAccepted marksFit levels places mostRounds
+accepted-of-is-accepted w e =
+    let t1 = and-eq-true-iff (ltb (w .level) 16) _ .0 e in
+    let t2 = and-eq-true-iff (leb (w .slot) 15) _ .0 (t1 .1) in
+    let t3 = and-eq-true-iff (leb (w .count) 64) _ .0 (t2 .1) in
+    let t4 = and-eq-true-iff (leb 1 (w .rounds)) _ .0 (t3 .1) in
+    let t5 = and-eq-true-iff (leb (w .rounds) 481) _ .0 (t4 .1) in
+    let t6 = and-eq-true-iff (ltb (w .mask) (2 ^ maskLength (w .level))) _ .0 (t5 .1) in
+    let t7 = and-eq-true-iff (leb (deepest (w .marks)) (w .level + 1)) (ltb (deepest (w .marks)) 16) .0 (t6 .1) in
+    record {
+      level = ltb-true (w .level) 16 (t1 .0);
+      slot = leb-true (w .slot) 15 (t2 .0);
+      count = leb-true (w .count) 64 (t3 .0);
+      first-round = leb-true 1 (w .rounds) (t4 .0);
+      last-round = leb-true (w .rounds) 481 (t5 .0);
+      mask = ltb-true (w .mask) (2 ^ maskLength (w .level)) (t6 .0);
+      own-level = leb-true (deepest (w .marks)) (w .level + 1) (t7 .0);
+      last-level = ltb-true (deepest (w .marks)) 16 (t7 .1);
+    }
+
+pub is-accepted-of-accepted : (w : Walk) → Accepted w → isAccepted w ≡ true
+unfolding isAccepted marksFit levels places mostRounds
+is-accepted-of-accepted w a =
+    rw (
+      lt-ltb (w .level) 16 (a .level),
+      le-leb (w .slot) 15 (a .slot),
+      le-leb (w .count) 64 (a .count),
+      le-leb 1 (w .rounds) (a .first-round),
+      le-leb (w .rounds) 481 (a .last-round),
+      lt-ltb (w .mask) (2 ^ maskLength (w .level)) (a .mask),
+      le-leb (deepest (w .marks)) (w .level + 1) (a .own-level),
+      lt-ltb (deepest (w .marks)) 16 (a .last-level),
+    )
+
+-- the digit above 14 digits at the most is within 60 bits, and so is what stands below it
+pub unit-most : (j : ℕ) → j < 15 → 2 ^ (4 * j) ≤ 2 ^ 56
+unit-most j h = pow-mono {i = 4 * j} {j = 56} (omega arith)
+
+pub low-digits-most : (v j : ℕ) → j < 15 → v % 2 ^ (4 * j) < 2 ^ 56
+low-digits-most v j h = omega (arith, mod-lt v (pow-pos (4 * j)), unit-most j h)
+
+pub digit-most : (p s : ℕ) → s < 16 → s * p ≤ 15 * p
+digit-most p s h = mul-le-mul-right p (omega arith)
+
+-- the digit above j digits: within j + 1 digits
+pub digit-fits : (v p s : ℕ) → 0 < p → s < 16 → v % p + s * p < 16 * p
+digit-fits v p s h k =
+    let rest : v % p < p = mod-lt v h in
+    omega (arith, digit-most p s k)
+
+pub opened-mask-fits : (mask j s : ℕ) → s < 16 → openedMask mask j s < 2 ^ maskLength (j + 1)
+unfolding openedMask maskLength
+opened-mask-fits mask j s h =
+    let longer : 4 * (j + 1) ≡ 4 + 4 * j = omega arith in
+    rw (longer, pow-add 2 4 (4 * j)) (digit-fits mask (2 ^ (4 * j)) s (pow-pos (4 * j)) h)

@@ -1,0 +1,51 @@
+-- `walk::Walk::hear` meets its contract: refused, or the slot judged and taken (HearWays.antt). Assumes nothing.
+use borrow.Author.Needs.{needs}
+use lib.ListN.{length}
+use Rattle.walk.proofs.Limits.{accepted-of-is-accepted}
+use Rattle.walk.proofs.HearWays.{served-of-refusal, hears-refused, hears-served}
+use Rattle.walk.proofs.Walk.hear.Statement.{statement}
+use Rattle.walk.proofs.Walk.hear.Tie as tie
+
+refusal-requires : tie.Need-refusal-requires
+refusal-requires c κs = search needs
+
+returns : tie.Need-returns
+returns c =
+    let args = c .before .before .before .before .args in
+    let refusal = c .before .refusal in
+    let first = c .if1 in
+    hears-refused (args .self) (args .kind) (args .bytes .now) (args .list .now) _ (refusal .ensures) (first .taken)
+
+judge-requires : tie.Need-judge-requires
+judge-requires c κs =
+    let args = c .before .before .before .before .args in
+    let refusal = c .before .refusal in
+    let first = c .if1 in
+    let served = served-of-refusal (args .self) (length (args .list .now)) _ (refusal .ensures) (first .left) in
+    accepted-of-is-accepted (args .self) (served .accepted) .level
+
+take-requires : tie.Need-take-requires
+take-requires c κs =
+    let args = c .before .before .before .before .before .before .args in
+    let refusal = c .before .before .before .refusal in
+    let first = c .before .before .if1 in
+    let served = served-of-refusal (args .self) (length (args .list .now)) _ (refusal .ensures) (first .left) in
+    (served .accepted, served .list)
+
+same-length : tie.Need-same-length
+same-length c = search needs
+
+returns-2 : tie.Need-returns-2
+returns-2 c =
+    let args = c .before .before .before .before .before .before .before .before .before .args in
+    let refusal = c .before .before .before .before .before .before .refusal in
+    let first = c .before .before .before .before .before .if1 in
+    let judge = c .before .before .before .before .judge in
+    let take = c .before .before .take in
+    hears-served (args .self) (args .kind) (args .bytes .now) (args .list .now) _ _ _ _ (refusal .ensures) (first .left) (judge .ensures)
+    (take .ensures)
+
+pub hear-spec : {M : Type 1} → statement M
+hear-spec =
+    tie.close
+    (tie.spec refusal-requires returns judge-requires take-requires same-length returns-2)

@@ -1,0 +1,101 @@
+-- 01, The walk: what a slot makes of the walk and of its list.
+use Prim.Native.Nat.{ℕ, zero, suc}
+use mathlib.Core.Bool.{Bool, cond, _&&_}
+use mathlib.Core.List.{List}
+use mathlib.Core.Path.{_≡_}
+use lib.Dec.{leb, ltb, eqb}
+use lib.ListN.{length, getD, set}
+use Rattle.crc.specs.Check.{isSealed}
+use Rattle.frames.specs.Field.{fieldAt}
+use Rattle.slots.specs.Fits.{fitsSlot}
+use Rattle.walk.specs.declared.Walk.{Walk}
+use Rattle.walk.specs.declared.Kind.{Kind}
+use Rattle.walk.specs.declared.Kind.the-variants.{Silence, Clash, Bytes}
+use Rattle.walk.specs.declared.Slot.{Slot}
+use Rattle.walk.specs.declared.Slot.the-variants.{Silent, Clashed, Clean}
+use Rattle.walk.specs.declared.Heard.{Heard}
+use Rattle.walk.specs.Marks.{deepest}
+use Rattle.walk.specs.Record.{places, mostRounds, maskLength, running, complete, twins, full, overrun, isRunning, isAccepted, ended, counted, marked, atNextSlot, opened}
+
+-- ---- "Each is silent, a clash, or bytes."
+
+-- the UID of an answer "00, DSFID, UID, check"
+unfoldable pub uidOf : List ℕ → ℕ
+uidOf bytes = fieldAt bytes 2 8
+
+-- "Bytes are clean if they are 12, checked, flags 00, and the UID fits mask and slot"
+unfoldable pub isClean : Walk → List ℕ → Bool
+isClean w bytes =
+    eqb (length bytes) 12
+    && (isSealed bytes && (eqb (getD bytes 0 0) 0x00 && fitsSlot (uidOf bytes) (maskLength (w .level)) (w .mask) (w .slot)))
+
+-- "all else is a clash"
+unfoldable pub judged : Walk → Kind → List ℕ → Slot
+judged w Silence bytes = Silent
+judged w Clash bytes = Clashed
+judged w Bytes bytes = cond (isClean w bytes) (Clean (uidOf bytes)) Clashed
+
+-- ---- what a slot leaves behind
+
+-- "twins (a clash at k=15, at once), full (a clean UID with 64 listed, at once)": the ending, or 0
+unfoldable pub endsAtOnce : Walk → Slot → ℕ
+endsAtOnce w Silent = running
+endsAtOnce w Clashed = cond (ltb (w .level) 15) running twins
+endsAtOnce w (Clean uid) = cond (ltb (w .count) places) running full
+
+-- "Clean UIDs are listed as heard.": at the first free place
+unfoldable pub noted : Walk → Slot → Walk
+noted w Silent = w
+noted w Clashed = marked w
+noted w (Clean uid) = counted w
+
+unfoldable pub listNoted : Walk → Slot → List ℕ → List ℕ
+listNoted w Silent list = list
+listNoted w Clashed list = list
+listNoted w (Clean uid) list = set list (w .count) uid
+
+-- "After slot 15 the walk opens the lowest unopened clash of the deepest level that has one"; "complete (no clash waits)", "overrun (round 482
+-- would be needed)". The second argument is one more than that level, or 0 where no clash waits
+unfoldable pub turned : Walk → ℕ → Walk
+turned w zero = ended complete w
+turned w (suc j) = cond (ltb (w .rounds) mostRounds) (opened w j) (ended overrun w)
+
+unfoldable pub passed : Walk → Walk
+passed w = cond (ltb (w .slot) 15) (atNextSlot w) (turned w (deepest (w .marks)))
+
+-- the walk and its list after a slot
+unfoldable pub walkAfter : Walk → Slot → Walk
+walkAfter w slot = cond (eqb (endsAtOnce w slot) running) (passed (noted w slot)) (ended (endsAtOnce w slot) w)
+
+unfoldable pub listAfter : Walk → Slot → List ℕ → List ℕ
+listAfter w slot list = cond (eqb (endsAtOnce w slot) running) (listNoted w slot list) list
+
+-- what a slot leaves behind: the walk r, and the list left
+pub record After (walk : Walk) (list : List ℕ) (r : Walk) (left : List ℕ) : Type 0 where
+  pub walk-left : r ≡ walk
+  pub list-left : left ≡ list
+
+-- ---- the call
+
+-- "hearing 10, 6, 5": the number of the refusal, or 0 where the call is served
+unfoldable pub refusal : Walk → ℕ → ℕ
+refusal w room = cond (isAccepted w) (cond (isRunning w) (cond (leb places room) 0 5) 6) 10
+
+-- all that hearing leaves behind
+pub record Hearing : Type 0 where
+  pub walk : Walk
+  pub list : List ℕ
+  pub number : ℕ
+
+unfoldable pub hearing : Walk → Kind → List ℕ → List ℕ → Hearing
+hearing w kind bytes list =
+    let n : ℕ = refusal w (length list) in
+    cond (eqb n 0)
+    (record { walk = walkAfter w (judged w kind bytes); list = listAfter w (judged w kind bytes) list; number = 0 })
+    (record { walk = w; list = list; number = n })
+
+-- what `hear` promises: what is returned, and every place of the list
+pub record Hears (h : Hearing) (r : Heard) (list : List ℕ) : Type 0 where
+  pub walk : r .walk ≡ h .walk
+  pub number : r .number ≡ h .number
+  pub list-left : list ≡ h .list

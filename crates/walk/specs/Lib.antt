@@ -1,0 +1,4 @@
+pub mod Marks
+pub mod Record
+pub mod Hear
+pub mod Ask

@@ -1,0 +1,112 @@
+-- 01, The walk: the record, which ones number 10 refuses, and each way in which it changes.
+use Prim.Native.Nat.{ℕ, _+_, _*_, _%_, _^_}
+use mathlib.Core.Bool.{Bool, true, false, cond, _&&_}
+use mathlib.Core.List.{List, [], _∷_}
+use lib.Dec.{leb, ltb, eqb}
+use lib.ListN.{getD, set}
+use Rattle.walk.specs.declared.Walk.{Walk}
+use Rattle.walk.specs.Marks.{levels, withMark, withoutMark, lowest, deepest}
+
+-- "a list of 64 UIDs"
+unfoldable pub places : ℕ
+places = 64
+
+-- "overrun (round 482 would be needed)"
+unfoldable pub mostRounds : ℕ
+mostRounds = 481
+
+-- "mask length 4k with k from 0 to 15", in bits
+unfoldable pub maskLength : ℕ → ℕ
+maskLength level = 4 * level
+
+-- ---- Endings: the values of the field ending. 0 is no ending, and what is none of these is overrun too
+
+abbrev pub running : ℕ
+running = 0
+
+abbrev pub complete : ℕ
+complete = 1
+
+abbrev pub twins : ℕ
+twins = 2
+
+abbrev pub full : ℕ
+full = 3
+
+abbrev pub overrun : ℕ
+overrun = 4
+
+unfoldable pub isRunning : Walk → Bool
+isRunning w = eqb (w .ending) running
+
+-- "a family (none, or an AFI byte)"
+unfoldable pub hasFamily : Walk → Bool
+hasFamily w = ltb (w .family) 256
+
+-- ---- Numbers of refused calls, 10
+
+-- "a clash mark at a level deeper than its own or at the last level"
+unfoldable pub marksFit : List ℕ → ℕ → Bool
+marksFit marks level = leb (deepest marks) (level + 1) && ltb (deepest marks) levels
+
+-- "level or slot over 15, list count over 64, rounds 0 or over 481, mask bits above its length (4 × level)"
+unfoldable pub isAccepted : Walk → Bool
+isAccepted w =
+    ltb (w .level) levels
+    && (leb (w .slot) 15
+    && (leb (w .count) places
+    && (leb 1 (w .rounds)
+    && (leb (w .rounds) mostRounds
+    && (ltb (w .mask) (2 ^ maskLength (w .level)) && marksFit (w .marks) (w .level))))))
+
+-- ---- the changes: the family never does
+
+unfoldable pub remade : Walk → ℕ → List ℕ → ℕ → ℕ → ℕ → ℕ → ℕ → Walk
+remade w mask marks rounds level slot count ending =
+    record {
+      mask = mask;
+      marks = marks;
+      rounds = rounds;
+      family = w .family;
+      level = level;
+      slot = slot;
+      count = count;
+      ending = ending;
+    }
+
+-- "An ending changes only the ending itself"
+unfoldable pub ended : ℕ → Walk → Walk
+ended ending w = remade w (w .mask) (w .marks) (w .rounds) (w .level) (w .slot) (w .count) ending
+
+-- a UID more is listed
+unfoldable pub counted : Walk → Walk
+counted w = remade w (w .mask) (w .marks) (w .rounds) (w .level) (w .slot) (w .count + 1) (w .ending)
+
+-- the slot clashed, and waits
+unfoldable pub marked : Walk → Walk
+marked w =
+    remade w (w .mask) (set (w .marks) (w .level) (withMark (getD (w .marks) (w .level) 0) (w .slot))) (w .rounds) (w .level) (w .slot) (w .count)
+    (w .ending)
+
+unfoldable pub atNextSlot : Walk → Walk
+atNextSlot w = remade w (w .mask) (w .marks) (w .rounds) (w .level) (w .slot + 1) (w .count) (w .ending)
+
+-- "its mask being the slot digit above the old mask": slot s of level j, whose mask has j digits
+unfoldable pub openedMask : ℕ → ℕ → ℕ → ℕ
+openedMask mask j s = mask % 2 ^ maskLength j + s * 2 ^ maskLength j
+
+-- "opens the lowest unopened clash" of level j: a round more, one level deeper, from slot 0 on
+unfoldable pub openedAt : Walk → ℕ → ℕ → Walk
+openedAt w j s =
+    remade w (openedMask (w .mask) j s) (set (w .marks) j (withoutMark (getD (w .marks) j 0) s)) (w .rounds + 1) (j + 1) 0 (w .count) (w .ending)
+
+unfoldable pub opened : Walk → ℕ → Walk
+opened w j = openedAt w j (lowest (getD (w .marks) j 0))
+
+-- "a round count starting at 1", with no mask, no mark and an empty list
+unfoldable pub noMarks : List ℕ
+noMarks = 0 ∷ 0 ∷ 0 ∷ 0 ∷ 0 ∷ 0 ∷ 0 ∷ 0 ∷ 0 ∷ 0 ∷ 0 ∷ 0 ∷ 0 ∷ 0 ∷ 0 ∷ 0 ∷ []
+
+unfoldable pub started : ℕ → Walk
+started family =
+    record { mask = 0; marks = noMarks; rounds = 1; family = family; level = 0; slot = 0; count = 0; ending = running }

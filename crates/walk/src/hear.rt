@@ -1,0 +1,164 @@
+// A slot is heard: what it brought, what the walk and its list become, and whether the walk ends.
+ghost use mathlib.Core.Path.{_≡_};
+ghost use mathlib.Core.Bool.{true};
+ghost use Prim.Native.Nat.{_<_, _≤_};
+ghost use lib.ListN.{length};
+ghost use Rattle.walk.specs.Marks.{deepest};
+ghost use Rattle.walk.specs.Record.{isAccepted};
+ghost use Rattle.walk.specs.Hear.{uidOf, isClean, judged, endsAtOnce, noted, listNoted, turned, passed, walkAfter, listAfter, refusal, hearing, After, Hears};
+use crate::Heard;
+use crate::Kind;
+use crate::Slot;
+use crate::Walk;
+use crate::marks::deepest;
+
+fn uid_of(bytes: &[u8]) -> u64
+    ensures { λ r. ⌜ r ≡ uidOf (now (bytes .entry)) ⌝ }
+{
+    frames::field(bytes, 2, 8)
+}
+
+fn is_clean(walk: Walk, bytes: &[u8]) -> bool
+    requires { ⌜ walk .level < 16 ⌝ }
+    ensures { λ r. ⌜ r ≡ isClean walk (now (bytes .entry)) ⌝ }
+{
+    if bytes.len() != 12 {
+        return false;
+    }
+    if !crc::is_sealed(bytes) {
+        return false;
+    }
+    if bytes[0] != 0x00 {
+        return false;
+    }
+    slots::fits_slot(uid_of(bytes), 4 * walk.level, walk.mask, walk.slot)
+}
+
+fn judge(walk: Walk, kind: Kind, bytes: &[u8]) -> Slot
+    requires { ⌜ walk .level < 16 ⌝ }
+    ensures { λ r. ⌜ r ≡ judged walk kind (now (bytes .entry)) ⌝ }
+{
+    match kind {
+        Kind::Silence => Slot::Silent,
+        Kind::Clash => Slot::Clashed,
+        Kind::Bytes => {
+            if is_clean(walk, bytes) {
+                Slot::Clean(uid_of(bytes))
+            } else {
+                Slot::Clashed
+            }
+        }
+    }
+}
+
+// Twins, full, or 0 where the slot ends nothing at once.
+fn ends_at_once(walk: Walk, slot: Slot) -> u8
+    ensures { λ r. ⌜ r ≡ endsAtOnce walk slot ⌝ }
+{
+    match slot {
+        Slot::Silent => 0,
+        Slot::Clashed => if walk.level < 15 { 0 } else { 2 },
+        Slot::Clean(_) => if walk.count < 64 { 0 } else { 3 },
+    }
+}
+
+fn note(walk: Walk, slot: Slot) -> Walk
+    requires { ⌜ isAccepted walk ≡ true ⌝ }
+    requires { ⌜ endsAtOnce walk slot ≡ 0 ⌝ }
+    ensures { λ r. ⌜ r ≡ noted walk slot ⌝ }
+{
+    match slot {
+        Slot::Silent => walk,
+        Slot::Clashed => walk.marked(),
+        Slot::Clean(_) => walk.counted(),
+    }
+}
+
+fn note_in_list(walk: Walk, slot: Slot, list: &mut [u64])
+    requires { ⌜ endsAtOnce walk slot ≡ 0 ⌝ }
+    requires { ⌜ 64 ≤ length (now list) ⌝ }
+    ensures { λ _. ⌜ now (list .exit) ≡ listNoted walk slot (now (list .entry)) ⌝ }
+{
+    match slot {
+        Slot::Silent => {}
+        Slot::Clashed => {}
+        Slot::Clean(uid) => {
+            list[walk.count as usize] = uid;
+        }
+    }
+}
+
+// After slot 15: n is one more than the deepest level where a clash waits, or 0.
+fn turn(walk: Walk, n: usize) -> Walk
+    requires { ⌜ n < 16 ⌝ }
+    ensures { λ r. ⌜ r ≡ turned walk n ⌝ }
+{
+    if n == 0 {
+        return walk.ended(1);
+    }
+    if walk.rounds < 481 {
+        walk.opened((n - 1) as u8)
+    } else {
+        walk.ended(4)
+    }
+}
+
+fn pass(walk: Walk) -> Walk
+    requires { ⌜ deepest (walk .marks) < 16 ⌝ }
+    ensures { λ r. ⌜ r ≡ passed walk ⌝ }
+{
+    let marks = walk.marks;
+    if walk.slot < 15 {
+        return walk.at_next_slot();
+    }
+    turn(walk, deepest(marks))
+}
+
+fn refusal(walk: Walk, room: usize) -> u8
+    ensures { λ r. ⌜ r ≡ refusal walk room ⌝ }
+{
+    if !walk.is_accepted() {
+        return 10;
+    }
+    if walk.ending != 0 {
+        return 6;
+    }
+    if room < 64 {
+        return 5;
+    }
+    0
+}
+
+// The slot in a walk that hears.
+fn take(walk: Walk, slot: Slot, list: &mut [u64]) -> Walk
+    requires { ⌜ isAccepted walk ≡ true ⌝ }
+    requires { ⌜ 64 ≤ length (now list) ⌝ }
+    ensures { λ r. ⌜ After (walkAfter walk slot) (listAfter walk slot (now (list .entry))) r (now (list .exit)) ⌝ }
+{
+    let ending = ends_at_once(walk, slot);
+    if ending != 0 {
+        return walk.ended(ending);
+    }
+    note_in_list(walk, slot, list);
+    pass(note(walk, slot))
+}
+
+impl Walk {
+    // Hears a slot. Clean UIDs go to the list, of 64 places or more; the bytes are looked at for Kind::Bytes only.
+    pub fn hear(self, kind: Kind, bytes: &[u8], list: &mut [u64]) -> Heard
+        ensures { λ r. ⌜ Hears (hearing self kind (now (bytes .entry)) (now (list .entry))) r (now (list .exit)) ⌝ }
+    {
+        let number = refusal(self, list.len());
+        if number != 0 {
+            return Heard {
+                walk: self,
+                number: number,
+            };
+        }
+        let slot = judge(self, kind, bytes);
+        Heard {
+            walk: take(self, slot, list),
+            number: 0,
+        }
+    }
+}
