@@ -1,6 +1,7 @@
 -- 01's examples of the walk, by computation and by the tests of the definitions: the empty field, and the three numbers 481, 64 and 15.
 -- Assumes nothing.
 use mathlib.Core.Path.{_≡_, refl, ap, _∙_}
+use mathlib.Core.Bool.{true}
 use mathlib.Core.List.{List, []}
 use Prim.Native.Nat.{ℕ, zero, suc, _≤_, _<_}
 use native.Mathlib.Numerals.{add-one}
