@@ -26,7 +26,7 @@ pub enum Kind {
 }
 
 // What the walk makes of it: a clean reply with its UID, or a clash.
-enum Slot {
+pub enum Slot {
     Silent,
     Clashed,
     Clean(u64),
