@@ -1,8 +1,8 @@
 -- The cards that the walk's slot calls: their UIDs are those that end in mask and slot, and their messages are judged as those UIDs.
 -- By induction over the row; a mask and a slot are a tail of one digit more. Assumes nothing.
-use mathlib.Core.Path.{_≡_, refl, sym, ap, _∙_}
+use mathlib.Core.Path.{_≡_, refl, sym, ap}
 use mathlib.Core.Bool.{Bool, true, false, cond, _&&_, and-eq-true-iff}
-use Prim.Native.Nat.{ℕ, zero, suc, _+_, _*_, _%_, _^_, _≤_, _<_}
+use Prim.Native.Nat.{ℕ, suc, _+_, _*_, _%_, _^_, _<_}
 use mathlib.Core.List.{List, [], _∷_}
 use lib.Dec.{eqb}
 use Rattle.tails.specs.Tails.{ending}
@@ -11,8 +11,8 @@ use Rattle.slots.specs.Fits.{fitsMask, fitsSlot}
 use Rattle.card.specs.declared.Card.{Card}
 use Rattle.walk.specs.declared.Walk.{Walk}
 use Rattle.walk.specs.Record.{maskLength}
-use Rattle.walk.specs.Hear.{uidOf, isClean, judged}
-use Rattle.field.specs.Field.{Tag, Obeys, answers, answering, kindOf, bytesOf}
+use Rattle.walk.specs.Hear.{judged}
+use Rattle.field.specs.Field.{Tag, answers, answering, kindOf, bytesOf}
 use Rattle.field.specs.Demand.{AllObey}
 use Rattle.field.specs.Demand as demand
 use Rattle.field.proofs.Called.{called, slotOf}
@@ -49,14 +49,17 @@ called-callers family w (t ∷ ts) h g = go (answers family (t .card)) (called-c
     uid = t .card .uid
 
     either : (b : Bool) → called (answering family ts) w ≡ uids (callers family w ts)
-        → cond b (uid ∷ called (answering family ts) w) (called (answering family ts) w) ≡ uids (cond b (t .card ∷ callers family w ts) (callers family w ts))
+        → cond b (uid ∷ called (answering family ts) w) (called (answering family ts) w)
+        ≡ uids (cond b (t .card ∷ callers family w ts) (callers family w ts))
     either true rest = ap (λ (us : List ℕ). uid ∷ us) rest
     either false rest = rest
 
     go : (b : Bool) → called (answering family ts) w ≡ uids (callers family w ts)
         → called (cond b (uid ∷ answering family ts) (answering family ts)) w
         ≡ uids (cond (b && fitsSlot uid (maskLength (w .level)) (w .mask) (w .slot)) (t .card ∷ callers family w ts) (callers family w ts))
-    go true rest = rw (slot-tail uid (w .level) (w .mask) (w .slot) h g) (either (eqb (uid % 16 ^ suc (w .level)) (w .mask + w .slot * 16 ^ w .level)) rest)
+    go true rest =
+        rw (slot-tail uid (w .level) (w .mask) (w .slot) h g)
+        (either (eqb (uid % 16 ^ suc (w .level)) (w .mask + w .slot * 16 ^ w .level)) rest)
     go false rest = rest
 
 -- ---- what their messages are judged to be
@@ -71,9 +74,11 @@ unfolding callers calls
 callers-fit family w [] demand.none = none
 callers-fit family w (t ∷ ts) (demand.more o os) = go (calls family w (t .card)) refl (callers-fit family w ts os)
   where
-    go : (b : Bool) → calls family w (t .card) ≡ b → AllFit w (callers family w ts) → AllFit w (cond b (t .card ∷ callers family w ts) (callers family w ts))
+    go : (b : Bool) → calls family w (t .card) ≡ b → AllFit w (callers family w ts)
+        → AllFit w (cond b (t .card ∷ callers family w ts) (callers family w ts))
     go true e rest =
-        more (and-eq-true-iff (answers family (t .card)) (fitsSlot (t .card .uid) (maskLength (w .level)) (w .mask) (w .slot)) .0 e .1) (o .uid-fits) rest
+        let fits : Bool = fitsSlot (t .card .uid) (maskLength (w .level)) (w .mask) (w .slot) in
+        more (and-eq-true-iff (answers family (t .card)) fits .0 e .1) (o .uid-fits) rest
     go false e rest = rest
 
 pub callers-judged : (w : Walk) (cs : List Card) → AllFit w cs → judged w (kindOf (messages cs)) (bytesOf (messages cs)) ≡ slotOf (uids cs)

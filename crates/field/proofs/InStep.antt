@@ -1,22 +1,22 @@
--- A card in step keeps its shape, is accepted, and is no other card once cleared; a call over it is not refused.
+-- A card in step is accepted, says the same message, and is no other card once cleared; a call over it is not refused.
 -- By the card's two ways to be in step. Assumes nothing.
-use mathlib.Core.Path.{_≡_, refl, sym, ap, _∙_}
-use mathlib.Core.Bool.{Bool, true, false, cond, _&&_}
-use Prim.Native.Nat.{ℕ, zero, suc, _+_, _*_, _^_, _≤_, _<_}
+use mathlib.Core.Path.{_≡_, refl, ap, _∙_}
+use mathlib.Core.Bool.{Bool, true, false, cond}
+use Prim.Native.Nat.{ℕ, suc, _^_, _≤_, _<_}
 use native.Mathlib.Omega.{arith}
 use mathlib.Core.List.{List}
 use borrow.Author.Tests.{le-leb, lt-ltb}
 use lib.ListN.{length}
 use Rattle.card.specs.declared.Card.{Card}
 use Rattle.card.specs.declared.Sequence.the-variants.{Running}
-use Rattle.card.specs.Record.{shapeFits, sequenceFits, heldFits, isAccepted, remade, cleared, inSequence}
+use Rattle.card.specs.Record.{sequenceFits, heldFits, isAccepted, remade, cleared, inSequence}
 use Rattle.play.specs.Refusal.{lengthsFit, locksFit, roomFits, refusal}
 use Rattle.play.specs.Answer.{presence}
 use Rattle.play.proofs.Shape.{accepted-shape}
 use Rattle.play.proofs.Room.{room-of}
 use Rattle.walk.specs.Record.{maskLength}
-use Rattle.field.specs.Field.{answers}
-use Rattle.field.proofs.InTime.{inStep}
+use Rattle.field.specs.Field.{Tag, Obeys, answers}
+use Rattle.field.proofs.InTime.{inStep, Follows, AtSlot}
 use Rattle.field.proofs.Reply.{message}
 use Rattle.field.proofs.Requested.{mask-length-most}
 
@@ -41,7 +41,9 @@ served-accepted c memory locks room e = accepted-of (isAccepted c) _ e
 pub served-room : (c : Card) (memory : ℕ) (locks : List ℕ) (room : ℕ) → refusal c memory locks room ≡ 0 → 32 ≤ room
 unfolding refusal
 served-room c memory locks room e =
-    room-of c room (room-fits-of (roomFits c room) (rest-of (locksFit locks) _ 2 (rest-of (lengthsFit c memory (length locks)) _ 1 (rest-of (isAccepted c) _ 0 e)))) .least
+    let lengths = rest-of (isAccepted c) _ 0 e in
+    let locks-fit = rest-of (lengthsFit c memory (length locks)) _ 1 lengths in
+    room-of c room (room-fits-of (roomFits c room) (rest-of (locksFit locks) _ 2 locks-fit)) .least
 
 -- an accepted card of the same shape is served too
 pub served-same : (c card : Card) (memory : ℕ) (locks : List ℕ) (room : ℕ) → card .blocks ≡ c .blocks → card .size ≡ c .size → isAccepted card ≡ true
@@ -73,7 +75,13 @@ unfolding inStep isAccepted sequenceFits heldFits cleared inSequence remade
 step-accepted family level mask s c h g f e = go (answers family c)
   where
     go : (b : Bool) → isAccepted (cond b (inSequence (Running s (maskLength level) mask) (cleared c)) (cleared c)) ≡ true
-    go true = rw (accepted-shape c e, le-leb s 15 (omega arith), le-leb (maskLength level) 60 (mask-length-most level h), lt-ltb mask (2 ^ maskLength level) f)
+    go true =
+        rw (
+          accepted-shape c e,
+          le-leb s 15 (omega arith),
+          le-leb (maskLength level) 60 (mask-length-most level h),
+          lt-ltb mask (2 ^ maskLength level) f,
+        )
     go false = rw (accepted-shape c e)
 
 -- cards that are the same once cleared have the same shape
@@ -84,3 +92,28 @@ cleared-blocks c card e = ap (λ (x : Card). x .blocks) e
 pub cleared-size : (c card : Card) → cleared card ≡ cleared c → card .size ≡ c .size
 unfolding cleared remade
 cleared-size c card e = ap (λ (x : Card). x .size) e
+
+-- ---- a tag between two rounds
+
+pub slot-follows : (family level mask s : ℕ) (t₀ t : Tag) → level < 16 → s < 16 → mask < 2 ^ maskLength level → Obeys t₀
+    → AtSlot family level mask s t₀ t → Follows t₀ t
+slot-follows family level mask s t₀ t h g f o a =
+    let c : Card = t₀ .card in
+    let served : isAccepted c ≡ true = served-accepted c (length (t₀ .memory)) (t₀ .locks) (length (t₀ .room)) (o .accepted) in
+    record {
+      card = ap cleared (a .card) ∙ step-cleared family level mask s c;
+      memory = a .memory;
+      locks = a .locks;
+      room = a .room;
+      accepted = ap isAccepted (a .card) ∙ step-accepted family level mask s c h g f served;
+    }
+
+pub self-follows : (t : Tag) → Obeys t → Follows t t
+self-follows t o =
+    record {
+      card = refl;
+      memory = refl;
+      locks = refl;
+      room = refl;
+      accepted = served-accepted (t .card) (length (t .memory)) (t .locks) (length (t .room)) (o .accepted);
+    }

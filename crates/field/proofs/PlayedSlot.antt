@@ -1,25 +1,23 @@
 -- A slot played over cards is the slot that their UIDs bring: the request is parsed, the marks counted, the answers read back.
 -- By the card's definition of its events and the walk's of hearing and asking. Assumes nothing.
-use mathlib.Core.Path.{_≡_, refl, sym, ap, subst, subst⁻¹, _∙_}
+use mathlib.Core.Path.{_≡_, sym, ap, subst, subst⁻¹, _∙_}
 use mathlib.Core.Bool.{true, false}
-use Prim.Native.Nat.{ℕ, zero, suc, _^_, _≤_, _<_}
+use Prim.Native.Nat.{ℕ, _^_, _≤_, _<_}
 use mathlib.Core.List.{List, [], _∷_}
 use lib.ListN.{length}
-use Rattle.card.specs.declared.Card.{Card}
-use Rattle.card.specs.Record.{cleared}
 use Rattle.walk.specs.declared.Walk.{Walk}
 use Rattle.walk.specs.declared.Slot.{Slot}
 use Rattle.walk.specs.Record.{maskLength, isAccepted, isRunning}
 use Rattle.walk.specs.Hear.{judged, walkAfter, listAfter}
 use Rattle.walk.specs.Ask.{sent, roomAfter}
-use Rattle.field.specs.Field.{Tag, Obeys, answering, tagsAfter, replies, kindOf, bytesOf}
+use Rattle.field.specs.Field.{Tag, answering, replies, kindOf, bytesOf}
 use Rattle.field.specs.Played.{Play, slotPlayed}
 use Rattle.field.specs.Demand.{AllObey}
 use Rattle.field.specs.Demand as demand
 use Rattle.field.proofs.Called.{called, slotOf}
 use Rattle.field.proofs.InTime.{AtSlot, Follows, Both, none, more, Before}
-use Rattle.field.proofs.InStep.{served-accepted, step-cleared, step-accepted}
-use Rattle.field.proofs.Callers.{called-callers, callers-fit, callers-judged, callers, messages}
+use Rattle.field.proofs.InStep.{slot-follows, self-follows}
+use Rattle.field.proofs.Callers.{called-callers, callers-fit, callers-judged, callers}
 use Rattle.field.proofs.RowHeard.{Hears, row-at, row-replies, both-map}
 use Rattle.field.proofs.RowAsked.{Fits, accepted-fits, walk-asked, row-hears}
 use Rattle.field.proofs.WalkServed.{walk-heard, room-left, ended-heard, ended-asked, nothing-reached}
@@ -30,8 +28,9 @@ pub record SlotPlayed (family : ℕ) (tags₀ : List Tag) (p q : Play) : Type 0 
   pub room : length (q .room) ≡ length (p .room)
   pub tags : Both (AtSlot family (p .walk .level) (p .walk .mask) (p .walk .slot)) tags₀ (q .tags)
 
--- a slot of a walk that hears
-slot-heard : (ts₀ ts : List Tag) (w : Walk) (room : List ℕ) → AllObey ts₀ → Fits w → Both (Hears (w .family) w (sent w) (roomAfter w (sent w) room)) ts₀ ts
+-- what arrives is judged to be what the UIDs bring
+slot-heard : (ts₀ ts : List Tag) (w : Walk) (room : List ℕ) → AllObey ts₀ → Fits w
+    → Both (Hears (w .family) w (sent w) (roomAfter w (sent w) room)) ts₀ ts
     → judged w (kindOf (replies (sent w) (roomAfter w (sent w) room) ts)) (bytesOf (replies (sent w) (roomAfter w (sent w) room) ts))
     ≡ slotOf (called (answering (w .family) ts₀) w)
 slot-heard ts₀ ts w room obey fits hears =
@@ -39,6 +38,7 @@ slot-heard ts₀ ts w room obey fits hears =
     (callers-judged w (callers (w .family) w ts₀) (callers-fit (w .family) w ts₀ obey)
     ∙ ap slotOf (sym (called-callers (w .family) w ts₀ (fits .mask) (fits .slot))))
 
+-- a slot of a walk that hears, by its own family
 own-played : (tags₀ : List Tag) (p : Play) → AllObey tags₀ → isAccepted (p .walk) ≡ true → isRunning (p .walk) ≡ true → 64 ≤ length (p .list)
     → 14 ≤ length (p .room) → Before (p .walk .family) (p .walk .level) (p .walk .mask) (p .walk .slot) tags₀ (p .tags)
     → SlotPlayed (p .walk .family) tags₀ p (slotPlayed p)
@@ -46,9 +46,7 @@ unfolding slotPlayed
 own-played tags₀ p obey accepted running places room before =
     let w : Walk = p .walk in
     let fits : Fits w = accepted-fits w accepted in
-    let hears : Both (Hears (w .family) w (sent w) (roomAfter w (sent w) (p .room))) tags₀ (p .tags) =
-    row-hears w tags₀ (p .tags) (p .room) obey fits running before
-    in
+    let hears = row-hears w tags₀ (p .tags) (p .room) obey fits running before in
     let rs : List (List ℕ) = replies (sent w) (roomAfter w (sent w) (p .room)) (p .tags) in
     let heard = slot-heard tags₀ (p .tags) w (p .room) obey fits hears in
     rw (walk-asked w (p .room) accepted room, walk-heard w (kindOf rs) (bytesOf rs) (p .list) accepted running places)
@@ -59,6 +57,7 @@ own-played tags₀ p obey accepted running places room before =
       tags = row-at (w .family) w (sent w) (roomAfter w (sent w) (p .room)) tags₀ (p .tags) obey hears;
     })
 
+-- a slot of a walk that hears
 pub slot-played : (family : ℕ) (tags₀ : List Tag) (p : Play) → AllObey tags₀ → isAccepted (p .walk) ≡ true → isRunning (p .walk) ≡ true
     → p .walk .family ≡ family → 64 ≤ length (p .list) → 14 ≤ length (p .room)
     → Before family (p .walk .level) (p .walk .mask) (p .walk .slot) tags₀ (p .tags) → SlotPlayed family tags₀ p (slotPlayed p)
@@ -74,33 +73,11 @@ ended-played p accepted ended =
     rw (ended-asked (p .walk) (p .room) accepted ended, ended-heard (p .walk) _ _ (p .list) accepted ended, nothing-reached (p .room) (p .tags))
 
 -- a row at a slot follows, whatever the next round asks
-at-slot-follow : (family level mask s : ℕ) (t₀ t : Tag) → level < 16 → s < 16 → mask < 2 ^ maskLength level → Obeys t₀ → AtSlot family level mask s t₀ t → Follows t₀ t
-at-slot-follow family level mask s t₀ t h g f o a =
-    let c : Card = t₀ .card in
-    record {
-      card = ap cleared (a .card) ∙ step-cleared family level mask s c;
-      memory = a .memory;
-      locks = a .locks;
-      room = a .room;
-      accepted =
-          ap Rattle.card.specs.Record.isAccepted (a .card)
-          ∙ step-accepted family level mask s c h g f (served-accepted c (length (t₀ .memory)) (t₀ .locks) (length (t₀ .room)) (o .accepted));
-    }
-
-pub at-slot-follows : (family level mask s : ℕ) (ts₀ ts : List Tag) → AllObey ts₀ → level < 16 → s < 16 → mask < 2 ^ maskLength level → Both (AtSlot family level mask s) ts₀ ts → Both Follows ts₀ ts
-at-slot-follows family level mask s ts₀ ts obey h g f b = both-map ts₀ ts obey (λ t₀ t o a. at-slot-follow family level mask s t₀ t h g f o a) b
+pub at-slot-follows : (family level mask s : ℕ) (ts₀ ts : List Tag) → AllObey ts₀ → level < 16 → s < 16
+    → mask < 2 ^ maskLength level → Both (AtSlot family level mask s) ts₀ ts → Both Follows ts₀ ts
+at-slot-follows family level mask s ts₀ ts obey h g f b = both-map ts₀ ts obey (λ t₀ t o a. slot-follows family level mask s t₀ t h g f o a) b
 
 -- and every row follows itself
 pub follows-self : (ts : List Tag) → AllObey ts → Both Follows ts ts
 follows-self [] demand.none = none
-follows-self (t ∷ ts) (demand.more o os) =
-    let self : Follows t t =
-    record {
-      card = refl;
-      memory = refl;
-      locks = refl;
-      room = refl;
-      accepted = served-accepted (t .card) (length (t .memory)) (t .locks) (length (t .room)) (o .accepted);
-    }
-    in
-    more self (follows-self ts os)
+follows-self (t ∷ ts) (demand.more o os) = more (self-follows t o) (follows-self ts os)

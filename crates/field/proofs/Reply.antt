@@ -1,13 +1,11 @@
 -- A card's answer to an inventory is read back: it is clean exactly if the UID fits mask and slot, and the UID is the card's.
 -- By the round trips of the check and of a field. Assumes nothing.
 use mathlib.Core.Path.{_≡_, refl, sym, ap, _∙_}
-use mathlib.Core.Bool.{Bool, true, false, cond, _&&_}
-use Prim.Native.Nat.{ℕ, zero, suc, _+_, _^_, _<_}
+use mathlib.Core.Bool.{true}
+use Prim.Native.Nat.{ℕ, _^_, _<_}
 use native.Mathlib.Omega.{arith}
-use mathlib.Core.List.{List, [], _∷_, _++_}
-use borrow.Author.Tests.{eq-eqb}
-use lib.Dec.{eqb}
-use lib.ListN.{length, take, drop, getD}
+use mathlib.Core.List.{List, _∷_, _++_}
+use lib.ListN.{length, take, getD}
 use lib.Seq.{take-append-seam}
 use Rattle.crc.specs.Check.{checkBytes, sealed, isSealed}
 use Rattle.crc.proofs.Seal.{length-sealed, is-sealed-of-sealed}

@@ -5,21 +5,21 @@ use mathlib.Core.Bool.{Bool, true, false, cond, not, _&&_}
 use Prim.Native.Nat.{ℕ, zero, suc, _+_, _*_, _/_, _%_, _^_, _≤_, _<_, min}
 use native.Mathlib.Nat.{lt-of-lt-of-le, pow-succ', mod-eq-of-lt}
 use native.Mathlib.Omega.{arith}
-use mathlib.Core.List.{List, [], _∷_, _++_}
+use mathlib.Core.List.{List, _∷_, _++_}
 use borrow.Author.Tests.{eq-eqb, le-leb}
-use lib.Dec.{leb, eqb}
-use lib.ListN.{length, take, drop, getD, length-append}
+use lib.ListN.{length, take, length-append}
 use lib.Pow.{pow-add, pow-mono}
 use lib.Seq.{take-append-seam}
-use Rattle.frames.specs.Flags.{flagsOf, isOdd}
+use Rattle.frames.specs.Flags.{flagsOf}
 use Rattle.frames.specs.Field.{fieldOf, fieldBytes, fieldAt}
 use Rattle.frames.proofs.Fields.{length-field-bytes, field-of-bytes}
-use Rattle.slots.specs.Fits as slots
 use Rattle.card.specs.declared.Card.{Card}
 use Rattle.card.specs.declared.Turn.{Turn}
 use Rattle.card.specs.declared.Sequence.the-variants.{Running}
 use Rattle.card.specs.Record.{isQuiet, inSequence}
-use Rattle.card.specs.Inventory.{turn, still, lengthPlace, maskBytes, maskLimit, maskOf, totalLength, fitsFamily, takesPart, fitsSlot, present, joins, isInventory, inventoried}
+use Rattle.card.specs.Inventory.{turn, still, lengthPlace, maskLimit, maskOf, totalLength}
+use Rattle.slots.specs.Fits.{maskBytes, fitsSlot}
+use Rattle.card.specs.Inventory.{fitsFamily, takesPart, present, joins, isInventory, inventoried}
 
 -- eight bits are a byte
 bytes-of-bits : (k : ℕ) → 2 ^ (8 * k) ≡ 256 ^ k
@@ -63,7 +63,8 @@ pub family-parsed : (c : Card) (family n mask : ℕ) (rest : List ℕ) → lengt
     ≡ joined (not (isQuiet (c .mode)) && fitsFamily family (c .afi)) c n mask
 unfolding inventoried isInventory takesPart joins flagsOf lengthPlace maskLimit maskOf totalLength fieldAt joined
 family-parsed c family n mask rest e h g =
-    let total : suc (suc (suc (suc (length (fieldBytes (maskBytes n) mask ++ rest))))) ≡ 4 + maskBytes n + 2 = omega (arith, mask-length n mask rest e) in
+    let bytes : List ℕ = fieldBytes (maskBytes n) mask ++ rest in
+    let total : suc (suc (suc (suc (length bytes)))) ≡ 4 + maskBytes n + 2 = omega (arith, mask-length n mask rest e) in
     rw (le-leb n 60 h, eq-eqb _ _ total, mask-back n mask rest h g, takes-part)
 
 -- with none
@@ -71,5 +72,6 @@ pub none-parsed : (c : Card) (n mask : ℕ) (rest : List ℕ) → length rest �
     → inventoried c (flagsOf 0x06) (0x06 ∷ 0x01 ∷ n ∷ (fieldBytes (maskBytes n) mask ++ rest)) ≡ joined (not (isQuiet (c .mode)) && true) c n mask
 unfolding inventoried isInventory takesPart joins flagsOf lengthPlace maskLimit maskOf totalLength fieldAt joined
 none-parsed c n mask rest e h g =
-    let total : suc (suc (suc (length (fieldBytes (maskBytes n) mask ++ rest)))) ≡ 3 + maskBytes n + 2 = omega (arith, mask-length n mask rest e) in
+    let bytes : List ℕ = fieldBytes (maskBytes n) mask ++ rest in
+    let total : suc (suc (suc (length bytes))) ≡ 3 + maskBytes n + 2 = omega (arith, mask-length n mask rest e) in
     rw (le-leb n 60 h, eq-eqb _ _ total, mask-back n mask rest h g, takes-part)

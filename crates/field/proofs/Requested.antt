@@ -1,26 +1,24 @@
 -- A card that hears a round's request is in step with the walk, and answers exactly if slot 0 calls it.
 -- By the request's two heads, and the tests of the card's steps 1 to 3. Assumes nothing.
-use mathlib.Core.Path.{_≡_, refl, sym, ap, _∙_}
+use mathlib.Core.Path.{_≡_, refl, ap, _∙_}
 use mathlib.Core.Bool.{Bool, true, false, cond, not, _&&_}
-use Prim.Native.Nat.{ℕ, zero, suc, _+_, _*_, _/_, _^_, _≤_, _<_}
+use Prim.Native.Nat.{ℕ, _+_, _*_, _/_, _^_, _≤_, _<_}
 use native.Mathlib.Omega.{arith}
-use mathlib.Core.List.{List, [], _∷_, _++_}
-use lib.Dec.{ltb}
-use lib.ListN.{length, getD}
+use mathlib.Core.List.{List, _∷_, _++_}
+use lib.ListN.{length}
 use Rattle.crc.specs.Check.{checkBytes, sealed}
 use Rattle.crc.proofs.Seal.{length-sealed}
-use Rattle.frames.specs.Flags.{flagsOf, isOdd}
+use Rattle.frames.specs.Flags.{flagsOf}
 use Rattle.frames.specs.Field.{fieldBytes}
 use Rattle.frames.specs.Frame.{shortest, longest, isSound}
 use Rattle.frames.proofs.Fields.{length-field-bytes}
 use Rattle.frames.proofs.Sound.{sound-of-sealed}
-use Rattle.slots.specs.Fits as slots
 use Rattle.card.specs.declared.Card.{Card}
-use Rattle.card.specs.declared.Deed.{Deed}
 use Rattle.card.specs.declared.Sequence.the-variants.{Running}
 use Rattle.card.specs.declared.Effect.the-variants.{Leave}
 use Rattle.card.specs.Record.{isQuiet, remade, cleared, inSequence}
-use Rattle.card.specs.Inventory.{maskBytes, fitsFamily, fitsMask, fitsSlot, present, inventoried}
+use Rattle.card.specs.Inventory.{fitsFamily, present, inventoried}
+use Rattle.slots.specs.Fits.{maskBytes, fitsMask, fitsSlot}
 use Rattle.card.specs.Request.{deed}
 use Rattle.card.specs.Frame.{leaving, decided}
 use Rattle.walk.specs.declared.Walk.{Walk}
@@ -35,18 +33,18 @@ use Rattle.field.proofs.Request.{joined, family-parsed, none-parsed}
 family-request : (w : Walk) → hasFamily w ≡ true
     → request w
     ≡ 0x16 ∷ 0x01 ∷ w .family ∷ maskLength (w .level) ∷ (fieldBytes (maskBytes (maskLength (w .level))) (w .mask) ++ checkBytes (requestBody w))
-unfolding request requestBody requestHead sealed maskBytes slots.maskBytes
+unfolding request requestBody requestHead sealed maskBytes
 family-request w e = rw e
 
 none-request : (w : Walk) → hasFamily w ≡ false
     → request w ≡ 0x06 ∷ 0x01 ∷ maskLength (w .level) ∷ (fieldBytes (maskBytes (maskLength (w .level))) (w .mask) ++ checkBytes (requestBody w))
-unfolding request requestBody requestHead sealed maskBytes slots.maskBytes
+unfolding request requestBody requestHead sealed maskBytes
 none-request w e = rw e
 
 -- ---- its length: 5 to 14 bytes
 
 body-length : (w : Walk) (b : Bool) → hasFamily w ≡ b → length (requestBody w) ≡ cond b 4 3 + (4 * w .level + 7) / 8
-unfolding requestBody requestHead slots.maskBytes maskLength
+unfolding requestBody requestHead maskBytes maskLength
 body-length w true e = rw e (omega (arith, length-field-bytes ((4 * w .level + 7) / 8) (w .mask)))
 body-length w false e = rw e (omega (arith, length-field-bytes ((4 * w .level + 7) / 8) (w .mask)))
 
@@ -92,13 +90,13 @@ none-answers w c e = rw e
 -- a card that joins is in step
 joined-deed : (c : Card) (w : Walk) → w .slot ≡ 0
     → leaving (joined (answers (w .family) c) (cleared c) (maskLength (w .level)) (w .mask))
-    ≡ deed (inStep (w .family) (w .level) (w .mask) 0 c) Leave (present (calls (w .family) w c))
-unfolding joined inStep calls cleared remade present fitsSlot fitsMask slots.fitsSlot slots.fitsMask
+    ≡ deed (inStep (w .family) (w .level) (w .mask) (w .slot) c) Leave (present (calls (w .family) w c))
+unfolding joined inStep calls cleared remade present fitsSlot fitsMask
 joined-deed c w e = rw e (go (answers (w .family) c))
   where
     go : (b : Bool) → leaving (joined b (cleared c) (maskLength (w .level)) (w .mask))
         ≡ deed (cond b (inSequence (Running 0 (maskLength (w .level)) (w .mask)) (cleared c)) (cleared c)) Leave
-        (present (b && slots.fitsSlot (c .uid) (maskLength (w .level)) (w .mask) 0))
+        (present (b && fitsSlot (c .uid) (maskLength (w .level)) (w .mask) 0))
     go true = refl
     go false = refl
 
@@ -107,20 +105,23 @@ unfolding maskLength
 mask-length-most level h = omega arith
 
 pub request-decided : (c : Card) (locks : List ℕ) (w : Walk) → w .level < 16 → w .mask < 2 ^ maskLength (w .level) → w .slot ≡ 0
-    → decided c locks (request w) ≡ deed (inStep (w .family) (w .level) (w .mask) 0 c) Leave (present (calls (w .family) w c))
+    → decided c locks (request w) ≡ deed (inStep (w .family) (w .level) (w .mask) (w .slot) c) Leave (present (calls (w .family) w c))
 unfolding checkBytes
 request-decided c locks w h g e = go (hasFamily w) refl ∙ joined-deed c w e
   where
-    go : (b : Bool) → hasFamily w ≡ b → decided c locks (request w) ≡ leaving (joined (answers (w .family) c) (cleared c) (maskLength (w .level)) (w .mask))
+    go : (b : Bool) → hasFamily w ≡ b
+        → decided c locks (request w) ≡ leaving (joined (answers (w .family) c) (cleared c) (maskLength (w .level)) (w .mask))
     go true f =
         let same = family-request w f in
+        let n : ℕ = maskLength (w .level) in
         ap (decided c locks) same
         ∙ family-decided c locks _ (rw same at (request-sound w h))
-        ∙ ap leaving (family-parsed (cleared c) (w .family) (maskLength (w .level)) (w .mask) (checkBytes (requestBody w)) refl (mask-length-most (w .level) h) g)
-        ∙ ap (λ (b : Bool). leaving (joined b (cleared c) (maskLength (w .level)) (w .mask))) (family-answers w c f)
+        ∙ ap leaving (family-parsed (cleared c) (w .family) n (w .mask) (checkBytes (requestBody w)) refl (mask-length-most (w .level) h) g)
+        ∙ ap (λ (b : Bool). leaving (joined b (cleared c) n (w .mask))) (family-answers w c f)
     go false f =
         let same = none-request w f in
+        let n : ℕ = maskLength (w .level) in
         ap (decided c locks) same
         ∙ none-decided c locks _ (rw same at (request-sound w h))
-        ∙ ap leaving (none-parsed (cleared c) (maskLength (w .level)) (w .mask) (checkBytes (requestBody w)) refl (mask-length-most (w .level) h) g)
-        ∙ ap (λ (b : Bool). leaving (joined b (cleared c) (maskLength (w .level)) (w .mask))) (none-answers w c f)
+        ∙ ap leaving (none-parsed (cleared c) n (w .mask) (checkBytes (requestBody w)) refl (mask-length-most (w .level) h) g)
+        ∙ ap (λ (b : Bool). leaving (joined b (cleared c) n (w .mask))) (none-answers w c f)

@@ -1,25 +1,23 @@
 -- What the walk asks for reaches a row that is in time with it: a request in slot 0, a mark in any other.
 -- By the walk's definition of what to send, and what one tag makes of it. Assumes nothing.
-use mathlib.Core.Path.{_≡_, refl, sym, ap, _∙_}
-use mathlib.Core.Bool.{Bool, true, false, cond, _&&_, and-eq-true-iff}
-use Prim.Native.Nat.{ℕ, zero, suc, _+_, _^_, _≤_, _<_}
+use mathlib.Core.Path.{_≡_, refl}
+use mathlib.Core.Bool.{true, and-eq-true-iff}
+use Prim.Native.Nat.{ℕ, zero, suc, _^_, _≤_, _<_}
 use native.Mathlib.Omega.{arith}
-use mathlib.Core.List.{List, [], _∷_}
+use mathlib.Core.List.{List}
 use borrow.Author.Tests.{eq-eqb, ne-eqb, le-leb, leb-true, ltb-true}
-use lib.Dec.{leb, ltb, eqb}
+use lib.Dec.{leb, ltb}
 use lib.ListN.{length}
-use Rattle.lent.specs.Lent.{over}
-use Rattle.lent.proofs.Over.{length-over}
 use Rattle.walk.specs.declared.Walk.{Walk}
 use Rattle.walk.specs.declared.Send.{Send}
 use Rattle.walk.specs.declared.Send.the-variants.{Nothing, Mark, Request}
 use Rattle.walk.specs.Marks.{levels}
-use Rattle.walk.specs.Record.{places, mostRounds, maskLength, marksFit, isAccepted, isRunning}
-use Rattle.walk.specs.Ask.{request, sent, roomAsked, roomAfter, refusal, Asking, asking}
-use Rattle.field.specs.Field.{Tag, Obeys}
+use Rattle.walk.specs.Record.{places, mostRounds, maskLength, isAccepted, isRunning}
+use Rattle.walk.specs.Ask.{request, sent, roomAsked, roomAfter, refusal, asking}
+use Rattle.field.specs.Field.{Tag}
 use Rattle.field.specs.Demand.{AllObey}
-use Rattle.field.proofs.InTime.{Follows, AtSlot, Both, Before}
-use Rattle.field.proofs.TagHeard.{request-heard, mark-reached}
+use Rattle.field.proofs.InTime.{Both, Before}
+use Rattle.field.proofs.TagHeard.{request-reached, mark-reached}
 use Rattle.field.proofs.RowHeard.{Hears, both-map}
 
 -- what an accepted walk says of its fields
@@ -73,11 +71,13 @@ pub row-hears : (w : Walk) (ts₀ ts : List Tag) (room : List ℕ) → AllObey t
 unfolding Before roomAfter
 row-hears w ts₀ ts room obey fits running before = go (w .slot) refl before
   where
-    go : (s : ℕ) → w .slot ≡ s → Before (w .family) (w .level) (w .mask) s ts₀ ts → Both (Hears (w .family) w (sent w) (roomAfter w (sent w) room)) ts₀ ts
+    go : (s : ℕ) → w .slot ≡ s → Before (w .family) (w .level) (w .mask) s ts₀ ts
+        → Both (Hears (w .family) w (sent w) (roomAfter w (sent w) room)) ts₀ ts
     go zero e b =
         rw (sent-request w running e)
-        (both-map ts₀ ts obey (λ t₀ t o f. record { after = request-heard w room t₀ t (fits .level) (fits .mask) e o f; room = f .room }) b)
+        (both-map ts₀ ts obey (λ t₀ t o f. record { after = request-reached w room t₀ t (fits .level) (fits .mask) e o f; room = f .room }) b)
     go (suc s) e b =
+        let below : s < 15 = omega (arith, fits .slot) in
         rw (sent-mark w s running e)
         (both-map ts₀ ts obey
-        (λ t₀ t o a. record { after = mark-reached (w .family) w s room t₀ t (fits .level) (fits .mask) e (omega (arith, fits .slot)) o a; room = a .room }) b)
+        (λ t₀ t o a. record { after = mark-reached (w .family) w s room t₀ t (fits .level) (fits .mask) e below o a; room = a .room }) b)

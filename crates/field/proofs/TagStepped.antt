@@ -2,18 +2,17 @@
 -- By the two replies, silence and presence. Assumes nothing.
 use mathlib.Core.Path.{_≡_, refl, sym, ap, _∙_}
 use mathlib.Core.Bool.{Bool, true, false, cond}
-use Prim.Native.Nat.{ℕ, zero, suc, _+_, _≤_, _<_}
+use Prim.Native.Nat.{ℕ, _≤_}
 use native.Mathlib.Omega.{arith}
 use mathlib.Core.List.{List, [], _∷_}
 use lib.ListN.{length, take}
 use Rattle.lent.specs.Lent.{over}
 use Rattle.lent.proofs.Over.{take-over, length-over}
-use Rattle.crc.specs.Check.{sealed}
 use Rattle.card.specs.declared.Card.{Card}
-use Rattle.card.specs.declared.Reply.the-variants.{Present, Silence}
+use Rattle.card.specs.declared.Reply.the-variants.{Present}
 use Rattle.card.specs.Inventory.{present}
 use Rattle.play.specs.Answer.{presence, replyBytes}
-use Rattle.play.specs.Events.{lengthTold, answered, Outcome, replied}
+use Rattle.play.specs.Events.{lengthTold, answered, replied}
 use Rattle.play.proofs.Answers.{length-presence}
 use Rattle.play.proofs.EventWays.{told-length, told-silence, answered-bytes, answered-silence}
 use Rattle.walk.specs.declared.Walk.{Walk}
@@ -40,19 +39,23 @@ module _ (c : Card) (memory locks found : List ℕ) where
   said-length false = sym (told-silence [] found refl)
 
   said-bytes : take 12 (answered (replyBytes c memory locks Present) found) ≡ message c
-  said-bytes = ap (take 12) (sym over-message) ∙ ap (λ (n : ℕ). take n (over (message c) found)) (sym (length-message c)) ∙ take-over (message c) found
+  said-bytes =
+      ap (take 12) (sym over-message)
+      ∙ ap (λ (n : ℕ). take n (over (message c) found)) (sym (length-message c))
+      ∙ take-over (message c) found
 
 module _ (family : ℕ) (w : Walk) (t₀ : Tag) (found : List ℕ) where
   pub stepped-at : Obeys t₀ → length found ≡ length (t₀ .room)
       → AtSlot family (w .level) (w .mask) (w .slot) t₀ (tagAfter (stepped family w t₀ found))
   unfolding stepped replied tagAfter
   stepped-at o e =
+      let card : Card = inStep family (w .level) (w .mask) (w .slot) (t₀ .card) in
       let least : 32 ≤ length (t₀ .room) = served-room (t₀ .card) (length (t₀ .memory)) (t₀ .locks) (length (t₀ .room)) (o .accepted) in
       record {
         card = refl;
         memory = refl;
         locks = refl;
-        room = room-kept (inStep family (w .level) (w .mask) (w .slot) (t₀ .card)) (t₀ .memory) (t₀ .locks) found (calls family w (t₀ .card)) (omega arith) ∙ e;
+        room = room-kept card (t₀ .memory) (t₀ .locks) found (calls family w (t₀ .card)) (omega arith) ∙ e;
       }
 
   pub stepped-told : stepped family w t₀ found .told ≡ cond (calls family w (t₀ .card)) 12 0

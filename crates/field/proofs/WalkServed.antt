@@ -1,24 +1,24 @@
 -- The walk's own two calls in a slot: hearing is not refused while it runs, and after an ending nothing is sent, heard or changed.
 -- By the tests of the refusals. Assumes nothing.
-use mathlib.Core.Path.{_≡_, refl, sym, ap, ap₂, _∙_}
-use mathlib.Core.Bool.{Bool, true, false, cond}
-use Prim.Native.Nat.{ℕ, zero, suc, _≤_, _<_}
+use mathlib.Core.Path.{_≡_, refl, ap}
+use mathlib.Core.Bool.{true, false}
+use Prim.Native.Nat.{ℕ, _≤_, _<_}
 use native.Mathlib.Omega.{arith}
 use mathlib.Core.List.{List, [], _∷_}
 use borrow.Author.Tests.{le-leb}
 use lib.ListN.{length}
 use Rattle.lent.proofs.Over.{length-over}
 use Rattle.play.specs.Answer.{replyBytes}
-use Rattle.play.specs.Events.{answered, lengthTold, replied}
+use Rattle.play.specs.Events.{answered, replied}
 use Rattle.walk.specs.declared.Walk.{Walk}
 use Rattle.walk.specs.declared.Kind.{Kind}
 use Rattle.walk.specs.declared.Send.{Send}
 use Rattle.walk.specs.declared.Send.the-variants.{Nothing, Mark, Request}
 use Rattle.walk.specs.Record.{places, isAccepted, isRunning}
 use Rattle.walk.specs.Hear as hear
-use Rattle.walk.specs.Hear.{judged, walkAfter, listAfter, Hearing, hearing}
+use Rattle.walk.specs.Hear.{judged, walkAfter, listAfter, hearing}
 use Rattle.walk.specs.Ask as ask
-use Rattle.walk.specs.Ask.{sent, roomAsked, roomAfter, Asking, asking}
+use Rattle.walk.specs.Ask.{sent, roomAsked, roomAfter, asking}
 use Rattle.field.specs.Field.{Tag, reached, tagAfter, tagsAfter}
 use Rattle.field.proofs.Requested.{request-most}
 
