@@ -1,0 +1,49 @@
+-- 01, Bench: "Standard input has one UID a line, 16 upper-case hex digits".
+use Prim.Native.Nat.{ℕ, zero, suc, _+_, _-_, _*_}
+use mathlib.Core.Bool.{Bool, true, cond, _&&_}
+use mathlib.Core.List.{List, [], _∷_, _++_}
+use lib.Dec.{leb, ltb, eqb}
+use lib.ListN.{length}
+
+-- "A line ends with the byte 0A, which the last may lack.": the lines of an input, after the bytes of a line that has begun
+unfoldable pub linesFrom : List ℕ → List ℕ → List (List ℕ)
+linesFrom line [] = cond (eqb (length line) 0) [] (line ∷ [])
+linesFrom line (b ∷ bs) = cond (eqb b 0x0a) (line ∷ linesFrom [] bs) (linesFrom (line ++ b ∷ []) bs)
+
+unfoldable pub lines : List ℕ → List (List ℕ)
+lines input = linesFrom [] input
+
+-- the value of a digit 0 to 9 or A to F, or 16 for any other byte
+unfoldable pub digitOf : ℕ → ℕ
+digitOf b = cond (leb 0x30 b && leb b 0x39) (b - 0x30) (cond (leb 0x41 b && leb b 0x46) (b - 0x37) 16)
+
+unfoldable pub allDigits : List ℕ → Bool
+allDigits [] = true
+allDigits (b ∷ bs) = ltb (digitOf b) 16 && allDigits bs
+
+-- "16 upper-case hex digits"
+unfoldable pub isUid : List ℕ → Bool
+isUid line = eqb (length line) 16 && allDigits line
+
+-- the number that digits stand for, the first the highest, after a number that has begun
+unfoldable pub numberFrom : ℕ → List ℕ → ℕ
+numberFrom n [] = n
+numberFrom n (b ∷ bs) = numberFrom (16 * n + digitOf b) bs
+
+unfoldable pub uidOf : List ℕ → ℕ
+uidOf line = numberFrom 0 line
+
+-- "The first wrong line, or line 101": its number, or 0 where there is none. n is the number of the first line here
+unfoldable pub badFrom : ℕ → List (List ℕ) → ℕ
+badFrom n [] = 0
+badFrom n (l ∷ ls) = cond (leb n 100 && isUid l) (badFrom (suc n) ls) n
+
+unfoldable pub badLine : List ℕ → ℕ
+badLine input = badFrom 1 (lines input)
+
+unfoldable pub uidsOf : List (List ℕ) → List ℕ
+uidsOf [] = []
+uidsOf (l ∷ ls) = uidOf l ∷ uidsOf ls
+
+unfoldable pub uids : List ℕ → List ℕ
+uids input = uidsOf (lines input)

@@ -1,0 +1,4 @@
+pub mod Input
+pub mod Row
+pub mod Output
+pub mod Bench

@@ -1,0 +1,49 @@
+-- 01, Bench: what is printed, byte for byte.
+use Prim.Native.Nat.{ℕ, zero, suc, _+_, _/_, _%_}
+use mathlib.Core.Bool.{cond}
+use mathlib.Core.List.{List, [], _∷_, _++_}
+use lib.Dec.{ltb, eqb}
+use lib.ListN.{take}
+use Rattle.walk.specs.declared.Walk.{Walk}
+use Rattle.walk.specs.Record.{complete, twins, full}
+use Rattle.rack.specs.declared.Desk.{Desk}
+
+-- "The words are complete, twins, full, overrun": ending 1, 2, 3, all else
+unfoldable pub word : ℕ → List ℕ
+word ending =
+    cond (eqb ending complete) (0x63 ∷ 0x6f ∷ 0x6d ∷ 0x70 ∷ 0x6c ∷ 0x65 ∷ 0x74 ∷ 0x65 ∷ [])
+    (cond (eqb ending twins) (0x74 ∷ 0x77 ∷ 0x69 ∷ 0x6e ∷ 0x73 ∷ [])
+    (cond (eqb ending full) (0x66 ∷ 0x75 ∷ 0x6c ∷ 0x6c ∷ [])
+    (0x6f ∷ 0x76 ∷ 0x65 ∷ 0x72 ∷ 0x72 ∷ 0x75 ∷ 0x6e ∷ [])))
+
+-- the byte of a digit, upper-case
+unfoldable pub digit : ℕ → ℕ
+digit d = cond (ltb d 10) (0x30 + d) (0x37 + d)
+
+-- a number below 1000 in decimal
+unfoldable pub decimal : ℕ → List ℕ
+decimal n =
+    cond (ltb n 10) (digit n ∷ [])
+    (cond (ltb n 100) (digit (n / 10) ∷ digit (n % 10) ∷ []) (digit (n / 100) ∷ digit (n / 10 % 10) ∷ digit (n % 10) ∷ []))
+
+-- the low n digits of a number, the highest first
+unfoldable pub hexDigits : ℕ → ℕ → List ℕ
+hexDigits zero u = []
+hexDigits (suc n) u = hexDigits n (u / 16) ++ digit (u % 16) ∷ []
+
+-- a UID a line
+unfoldable pub uidLines : List ℕ → List ℕ
+uidLines [] = []
+uidLines (u ∷ us) = hexDigits 16 u ++ 0x0a ∷ uidLines us
+
+-- "verdict", "rounds", "cards", the list
+unfoldable pub report : Desk → List ℕ
+report d =
+    0x76 ∷ 0x65 ∷ 0x72 ∷ 0x64 ∷ 0x69 ∷ 0x63 ∷ 0x74 ∷ 0x20 ∷ word (d .walk .ending)
+    ++ 0x0a ∷ 0x72 ∷ 0x6f ∷ 0x75 ∷ 0x6e ∷ 0x64 ∷ 0x73 ∷ 0x20 ∷ decimal (d .walk .rounds)
+    ++ 0x0a ∷ 0x63 ∷ 0x61 ∷ 0x72 ∷ 0x64 ∷ 0x73 ∷ 0x20 ∷ decimal (d .walk .count)
+    ++ 0x0a ∷ uidLines (take (d .walk .count) (d .list))
+
+-- "prints only `bad line` and its number"
+unfoldable pub complaint : ℕ → List ℕ
+complaint n = 0x62 ∷ 0x61 ∷ 0x64 ∷ 0x20 ∷ 0x6c ∷ 0x69 ∷ 0x6e ∷ 0x65 ∷ 0x20 ∷ decimal n ++ 0x0a ∷ []
