@@ -28,3 +28,4 @@ pub mod WalkServed
 pub mod PlayedSlot
 pub mod Stages
 pub mod Demand3
+pub mod Answering
