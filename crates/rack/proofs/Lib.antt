@@ -1,0 +1,5 @@
+pub mod CardTurned
+pub mod RowTurned
+pub mod SlotsAlike
+pub mod Meaning
+pub mod InputMeaning
