@@ -7,11 +7,11 @@ use mathlib.Core.List.{List, [], _∷_}
 use lib.ListN.{getD}
 use Rattle.card.specs.declared.Card.{Card}
 use Rattle.card.specs.Record.{shapeFits, sequenceFits, heldFits, isAccepted, isQuiet}
-use Rattle.play.specs.Refusal.{lengthsFit, locksFit, roomFits, refusal}
 use Rattle.field.specs.Field.{Tag, Obeys, answers, answering}
 use Rattle.field.specs.Played.{Play, fresh}
 use Rattle.field.specs.Played as field
 use Rattle.field.specs.Demand.{listed, AllObey, none, more, cards, Demand3, demand3}
+use Rattle.field.proofs.InStep.{byte-served}
 use Rattle.field.proofs.Stages.{stage-fresh}
 use Rattle.field.proofs.Demand3.{uids-fit, walk-of-a-field}
 use Rattle.rack.specs.declared.Desk.{Desk}
@@ -40,8 +40,8 @@ tagsOf [] = []
 tagsOf (u ∷ us) = tagOf u ∷ tagsOf us
 
 tag-obeys : (uid : ℕ) → uid < 2 ^ 64 → Obeys (tagOf uid)
-unfolding tagOf cardOf refusal isAccepted shapeFits sequenceFits heldFits lengthsFit locksFit roomFits
-tag-obeys uid h = record { accepted = refl; uid-fits = h }
+unfolding tagOf cardOf isAccepted shapeFits sequenceFits heldFits
+tag-obeys uid h = record { accepted = byte-served (cardOf uid) 32 refl refl refl (omega arith); uid-fits = h }
 
 tags-obey : (us : List ℕ) → ((i : ℕ) → getD us i 0 < 2 ^ 64) → AllObey (tagsOf us)
 unfolding tagsOf

@@ -10,7 +10,6 @@ use Rattle.card.specs.declared.Reply.the-variants.{Present}
 use Rattle.card.specs.declared.Sequence.the-variants.{Running}
 use Rattle.card.specs.Record.{cleared, inSequence, remade}
 use Rattle.card.specs.Inventory.{present}
-use Rattle.play.specs.Answer.{presence}
 use Rattle.walk.specs.declared.Walk.{Walk}
 use Rattle.walk.specs.declared.Kind.the-variants as kind
 use Rattle.walk.specs.Record.{maskLength, isAccepted, isRunning}
@@ -19,7 +18,7 @@ use Rattle.field.specs.Field.{Tag, answers, answering, kindOf, bytesOf}
 use Rattle.field.specs.Demand.{AllObey, cardLeft, cardsLeft, cards}
 use Rattle.field.proofs.Called.{called, slotOf}
 use Rattle.field.proofs.InTime.{inStep, calls, Both, none, more, Before}
-use Rattle.field.proofs.Reply.{message}
+use Rattle.field.proofs.Reply.{message, message-bytes}
 use Rattle.field.proofs.Callers.{callers, messages, uids, AllFit, callers-fit, callers-judged, called-callers}
 use Rattle.field.proofs.RowHeard.{both-map}
 use Rattle.field.proofs.RowAsked.{Fits, accepted-fits}
@@ -100,8 +99,8 @@ crowd-judged w bytes air e = rw e
 
 -- a single answer is the card's message
 single-bytes : (c : Card) → airBytes (airWith stillAir c Present) ≡ message c
-unfolding airBytes airWith stillAir message presence
-single-bytes c = refl
+unfolding airBytes airWith stillAir
+single-bytes c = sym (message-bytes c)
 
 air-judged : (w : Walk) (cs : List Card) → AllFit w cs
     → judged w (airKind (airOf stillAir cs)) (airBytes (airOf stillAir cs)) ≡ slotOf (uids cs)
