@@ -34,7 +34,7 @@ uids (c ∷ cs) = c .uid ∷ uids cs
 -- ---- their UIDs
 
 -- a mask and the slot above it are a tail
-slot-tail : (uid level mask slot : ℕ) → mask < 2 ^ maskLength level → slot < 16
+pub slot-tail : (uid level mask slot : ℕ) → mask < 2 ^ maskLength level → slot < 16
     → fitsSlot uid (maskLength level) mask slot ≡ eqb (uid % 16 ^ suc level) (mask + slot * 16 ^ level)
 unfolding fitsSlot fitsMask maskLength
 slot-tail uid level mask slot h g = rw (digits-of-bits level) (sym (above-fits uid level mask slot (rw (digits-of-bits level) at h) g))

@@ -27,4 +27,5 @@ pub mod RowAsked
 pub mod WalkServed
 pub mod PlayedSlot
 pub mod Stages
+pub mod AnyWalk
 pub mod Demand3
