@@ -44,6 +44,22 @@ use Rattle.play.proofs.Deeds.{DeedFits}
 use Rattle.play.proofs.Turns.{decided-fits}
 use Rattle.play.proofs.Unique.{leaves-unique}
 use Rattle.play.proofs.Examples.{Information, information-shown}
+use Rattle.walk.specs.declared.Walk.{Walk}
+use Rattle.walk.specs.declared.Kind.{Kind}
+use Rattle.walk.specs.declared.Slot.the-variants.{Clean}
+use Rattle.walk.specs.declared.Heard.{Heard}
+use Rattle.walk.specs.declared.Asked.{Asked}
+use Rattle.walk.specs.Record as walk-record
+use Rattle.walk.specs.Record.{maskLength, started}
+use Rattle.walk.specs.Hear.{judged, Hearing, Hears}
+use Rattle.walk.specs.Ask.{Asking, Asks}
+use Rattle.walk.proofs.Unique as walk-unique
+use Rattle.walk.proofs.Unique.{start-unique, hear-unique, ask-unique}
+use Rattle.walk.proofs.Examples.{Walks, walks}
+use Rattle.field.specs.Replies.{anyReplies}
+use Rattle.field.specs.Demand.{demand3}
+use Rattle.field.proofs.AnyWalk.{judged-fits, walk-of-any-replies}
+use Rattle.field.proofs.Demand3.{walk-of-a-field}
 
 -- ---- The check
 
@@ -90,6 +106,29 @@ an-inventory-frame = inventory-frame
 -- Whatever frame arrives, what is decided stays within the card's blocks and within the frame, and the shape stays.
 within-the-card : (card : Card) (locks frame : List ℕ) → DeedFits card frame (decided card locks frame)
 within-the-card = decided-fits
+
+-- ---- The walk
+
+-- Whatever a walk hears from its start on, true or false: its record is always one that number 10 accepts, no UID is listed twice, and it has
+-- ended after 16 × 481 slots.
+walking-over-any-replies : anyReplies
+walking-over-any-replies = walk-of-any-replies
+
+-- A UID that is taken for clean fits the mask and the slot that it was heard in.
+clean-fits : (w : Walk) (k : Kind) (bytes : List ℕ) (u : ℕ) → judged w k bytes ≡ Clean u
+    → fitsSlot u (maskLength (w .level)) (w .mask) (w .slot) ≡ true
+clean-fits = judged-fits
+
+-- ---- Demand 3
+
+-- Any cards whose records, memory, lock bytes and room are not refused, in any mode and with anything held or running; any family; a list of 64
+-- places or more. Each thing that a fresh walk sends reaches every card, one reply arrives whole, two or more arrive as a clash. Then the walk
+-- ends within 16 × 481 slots; it ends complete exactly if at most 64 cards answer its family and no two of these share a UID; the list then holds
+-- each of them once; the round count is one more than the number of tails of 1 to 15 digits that two or more of them share; otherwise it ends
+-- twins, or, above 64, twins or full; and every card keeps all but its sequence and its held answer.
+-- The statement is crates/field/specs/Demand.antt; the field stands in Field.antt and Played.antt beside it, the tails in crates/tails/specs.
+demand-three : demand3
+demand-three = walk-of-a-field
 
 -- ---- Every promise allows one result
 
@@ -165,6 +204,18 @@ event-once : (o : Outcome) (r s : Served) (memory memory′ locks locks′ answe
     → Leaves o r memory locks answer → Leaves o s memory′ locks′ answer′ → (r ≡ s) × (memory ≡ memory′) × (locks ≡ locks′) × (answer ≡ answer′)
 event-once = leaves-unique
 
+walk-start-once : (family : ℕ) (r s : Walk) → r ≡ started family → s ≡ started family → r ≡ s
+walk-start-once = start-unique
+
+walk-is-accepted-once : (w : Walk) (r s : Bool) → r ≡ walk-record.isAccepted w → s ≡ walk-record.isAccepted w → r ≡ s
+walk-is-accepted-once = walk-unique.is-accepted-unique
+
+hear-once : (h : Hearing) (r s : Heard) (list list′ : List ℕ) → Hears h r list → Hears h s list′ → (r ≡ s) × (list ≡ list′)
+hear-once = hear-unique
+
+ask-once : (w : Walk) (a : Asking) (r s : Asked) (room room′ : List ℕ) → Asks w a r room → Asks w a s room′ → (r ≡ s) × (room ≡ room′)
+ask-once = ask-unique
+
 -- ---- The examples of the rules page, under a single statement
 
 record Examples : Type 0 where
@@ -172,6 +223,7 @@ record Examples : Type 0 where
   of-tracks : Tracks
   of-cards : Cards
   of-information : Information
+  of-walks : Walks
 
 examples : Examples
-examples = record { of-checks = checks; of-tracks = tracks; of-cards = cards; of-information = information-shown }
+examples = record { of-checks = checks; of-tracks = tracks; of-cards = cards; of-information = information-shown; of-walks = walks }
