@@ -92,6 +92,7 @@ returns-4 c =
     let third = c .before .before .if3 in
     let fourth = c .before .if4 in
     let silence3 = c .silence3 in
+    let reserved : of .result .b8 ≡ true = fourth .taken in
     rw (
       ← (cleared .ensures),
       ← (byte-at .ensures),
@@ -99,7 +100,7 @@ returns-4 c =
       ← (is-sound .ensures),
       not-false (is-sound .result) (second .left),
       third .left,
-      fourth .taken,
+      reserved,
     ) (silence3 .ensures)
 
 request-requires : tie.Need-request-requires
