@@ -30,13 +30,19 @@ use Rattle.tracks.proofs.Unique.{code-unique, decode-unique}
 use Rattle.tracks.proofs.Examples.{Tracks, tracks}
 use Rattle.card.specs.declared.Card.{Card}
 use Rattle.card.specs.declared.Turn.{Turn}
-use Rattle.card.specs.declared.Deed.{Deed}
-use Rattle.card.specs.Record.{cleared, isAccepted, poweredOff}
+use Rattle.requests.specs.declared.Deed.{Deed}
+use Rattle.card.specs.declared.Mode.{Mode}
+use Rattle.card.specs.declared.Held.{Held}
+use Rattle.card.specs.Record.{isAccepted, cleared, inMode, holding, withAfi, withDsfid, poweredOff}
 use Rattle.card.specs.Mark.{marked}
-use Rattle.card.specs.Request.{silent}
-use Rattle.card.specs.Frame.{leaving, decided, heardInventory}
-use Rattle.card.proofs.Rules.{unsound-silent, inventory-frame}
-use Rattle.card.proofs.Unique.{is-accepted-unique, power-off-unique, hear-mark-unique, hear-inventory-unique, decide-unique}
+use Rattle.requests.specs.Request.{silent}
+use Rattle.card.specs.Frame.{heardInventory}
+use Rattle.requests.specs.Frame.{leaving, decided}
+use Rattle.requests.proofs.Rules.{unsound-silent, inventory-frame}
+use Rattle.card.proofs.Unique.{is-accepted-unique, cleared-unique, in-mode-unique, holding-unique, with-afi-unique, with-dsfid-unique, power-off-unique}
+use Rattle.card.proofs.Unique.{hear-mark-unique, hear-inventory-unique}
+use Rattle.requests.proofs.Unique.{decide-unique}
+use Rattle.requests.proofs.Examples.{BlockReads, block-reads}
 use Rattle.card.proofs.Examples.{Cards, cards}
 use Rattle.play.specs.declared.Served.{Served}
 use Rattle.play.specs.Events.{Outcome, Leaves}
@@ -187,6 +193,21 @@ decode-once = decode-unique
 is-accepted-once : (c : Card) (r s : Bool) → r ≡ isAccepted c → s ≡ isAccepted c → r ≡ s
 is-accepted-once = is-accepted-unique
 
+cleared-once : (c r s : Card) → r ≡ cleared c → s ≡ cleared c → r ≡ s
+cleared-once = cleared-unique
+
+in-mode-once : (c : Card) (mode : Mode) (r s : Card) → r ≡ inMode mode c → s ≡ inMode mode c → r ≡ s
+in-mode-once = in-mode-unique
+
+holding-once : (c : Card) (held : Held) (r s : Card) → r ≡ holding held c → s ≡ holding held c → r ≡ s
+holding-once = holding-unique
+
+with-afi-once : (c : Card) (afi : ℕ) (locked : Bool) (r s : Card) → r ≡ withAfi afi locked c → s ≡ withAfi afi locked c → r ≡ s
+with-afi-once = with-afi-unique
+
+with-dsfid-once : (c : Card) (dsfid : ℕ) (locked : Bool) (r s : Card) → r ≡ withDsfid dsfid locked c → s ≡ withDsfid dsfid locked c → r ≡ s
+with-dsfid-once = with-dsfid-unique
+
 power-off-once : (c r s : Card) → r ≡ poweredOff c → s ≡ poweredOff c → r ≡ s
 power-off-once = power-off-unique
 
@@ -222,8 +243,17 @@ record Examples : Type 0 where
   of-checks : Checks
   of-tracks : Tracks
   of-cards : Cards
+  of-reads : BlockReads
   of-information : Information
   of-walks : Walks
 
 examples : Examples
-examples = record { of-checks = checks; of-tracks = tracks; of-cards = cards; of-information = information-shown; of-walks = walks }
+examples =
+    record {
+      of-checks = checks;
+      of-tracks = tracks;
+      of-cards = cards;
+      of-reads = block-reads;
+      of-information = information-shown;
+      of-walks = walks;
+    }
