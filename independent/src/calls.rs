@@ -1,6 +1,9 @@
 //! Every call of the header, made on both sides and compared: the answer, and
 //! every byte of every lent buffer and its guards.
 
+#[cfg(feature = "card")]
+mod card;
+
 use std::ops::Range;
 
 use crate::area::{Area, Noise};
@@ -22,6 +25,8 @@ pub struct Calls {
     sealing: Area,
     coding: Area,
     decoding: Area,
+    #[cfg(feature = "card")]
+    card: card::Areas,
 }
 
 impl Calls {
@@ -36,6 +41,8 @@ impl Calls {
             // Hold the longest track, and what a garbage track might decode to.
             coding: Area::new(4200),
             decoding: Area::new(1100),
+            #[cfg(feature = "card")]
+            card: card::Areas::new(),
         }
     }
 

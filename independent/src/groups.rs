@@ -1,5 +1,7 @@
 //! The groups of the comparison, each over one kind of arguments.
 
+#[cfg(feature = "card")]
+mod cards;
 mod checks;
 mod codings;
 mod damaged_tracks;
@@ -16,7 +18,7 @@ use crate::random::Random;
 
 pub type Group = fn(&mut Calls, &mut Random);
 
-pub const GROUPS: [(&str, Group); 10] = [
+pub const GROUPS: &[(&str, Group)] = &[
     ("small frames", small_frames::run),
     ("random frames", random_frames::run),
     ("codings", codings::run),
@@ -27,6 +29,8 @@ pub const GROUPS: [(&str, Group); 10] = [
     ("sealing", sealing::run),
     ("checks", checks::run),
     ("null buffers", null_buffers::run),
+    #[cfg(feature = "card")]
+    ("cards", cards::run),
 ];
 
 /// Bytes that tracks are made of, and some that almost are.

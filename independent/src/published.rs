@@ -3,11 +3,15 @@
 
 use crate::calls::Calls;
 use crate::notation::show;
+use crate::reference::card::Said;
 use crate::reference::check::{check, is_sound, sealed};
 use crate::reference::coder::code;
 use crate::reference::decoder::{Decoded, Decoder};
+#[cfg(not(feature = "card"))]
+use crate::reference::record::serve;
+use crate::reference::record::{Event, Tag};
 use crate::reference::{Refusal, FRAME_MAX};
-use crate::vectors::{CheckCase, Side, TrackCase};
+use crate::vectors::{CardStep, CheckCase, Side, TrackCase};
 
 pub fn run_checks(calls: &mut Calls, cases: &[CheckCase]) {
     for case in cases {
@@ -43,6 +47,44 @@ pub fn run_tracks(calls: &mut Calls, cases: &[TrackCase]) {
             calls.decode(track, FRAME_MAX);
         }
     }
+}
+
+pub fn run_cards(calls: &mut Calls, steps: &[(String, CardStep)]) {
+    let mut tag = Tag { record: Vec::new(), memory: Vec::new(), locks: Vec::new() };
+    for (place, step) in steps {
+        let (event, answer) = match step {
+            CardStep::Card(given) => {
+                tag = given.clone();
+                continue;
+            }
+            CardStep::Event(event, answer) => (event, answer),
+        };
+        let outcome = serve_both(calls, event, &mut tag, 1000);
+        let (right, said) = match &outcome {
+            Ok(Said::Silence(why)) => (answer.is_none(), format!("silence, {why}")),
+            Ok(Said::Answer(why, bytes)) => {
+                (answer.as_ref() == Some(bytes), format!("{}, {why}", show(bytes)))
+            }
+            Err(refusal) => (false, format!("{refusal:?}")),
+        };
+        agree(calls, place, right, || said);
+    }
+}
+
+/// Serves by the reference, and by a board that has the calls.
+#[cfg(feature = "card")]
+fn serve_both(
+    calls: &mut Calls,
+    event: &Event,
+    tag: &mut Tag,
+    room: usize,
+) -> Result<Said, Refusal> {
+    calls.card(event, tag, room)
+}
+
+#[cfg(not(feature = "card"))]
+fn serve_both(_: &mut Calls, event: &Event, tag: &mut Tag, room: usize) -> Result<Said, Refusal> {
+    serve(event, tag, room)
 }
 
 fn is_track(said: &Result<Vec<u8>, Refusal>, case: &TrackCase) -> bool {
