@@ -1,3 +1,6 @@
 pub mod Fields
 pub mod Reading
 pub mod Putting
+pub mod Minus
+pub mod Told
+pub mod Ways

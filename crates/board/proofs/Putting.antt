@@ -63,6 +63,6 @@ card-put c e {l1} {l2} {l3} {l4} {l5} is a b d s m k =
     let f2 : l2 ≡ over two e = field-after one e (rw f1 at b) n1 (omega arith) in
     let f3 : l3 ≡ over three e = field-after two e (rw f2 at d) n2 (omega arith) in
     let f4 : l4 ≡ over (frontBytes c) e =
-        s ∙ ap (λ (l : List ℕ). placed 16 (stateBytes c) l) f3 ∙ over-placed 16 three (stateBytes c) e n3 (omega (arith, length-state c)) in
+    s ∙ ap (λ (l : List ℕ). placed 16 (stateBytes c) l) f3 ∙ over-placed 16 three (stateBytes c) e n3 (omega (arith, length-state c)) in
     let same : length (over (frontBytes c) e) ≡ length e = length-over (frontBytes c) e (omega (arith, length-front c)) in
     field-put (over (frontBytes c) e) (rw (f4, m) at k) (omega arith)

@@ -31,18 +31,18 @@ pub card-read : (bytes : List ℕ) {blocks size uid mask : ℕ} {mode : Mode} {s
 unfolding cardOf
 card-read bytes {mask} {sequence} p q u m s k h =
     let t : sequence ≡ sequenceOf (getD bytes 22 0) (getD bytes 23 0) (getD bytes 24 0) (fieldAt bytes 32 8) =
-        s ∙ ap (λ (v : ℕ). sequenceOf (getD bytes 22 0) (getD bytes 23 0) (getD bytes 24 0) v) k in
+    s ∙ ap (λ (v : ℕ). sequenceOf (getD bytes 22 0) (getD bytes 23 0) (getD bytes 24 0) v) k in
     λ i.
-        record {
-          blocks = p i;
-          size = q i;
-          uid = u i;
-          afi = getD bytes 16 0;
-          dsfid = getD bytes 17 0;
-          «afi_locked» = flagOf (getD bytes 18 0);
-          «dsfid_locked» = flagOf (getD bytes 19 0);
-          «ic_reference» = getD bytes 20 0;
-          mode = m i;
-          sequence = t i;
-          held = h i;
-        }
+    record {
+      blocks = p i;
+      size = q i;
+      uid = u i;
+      afi = getD bytes 16 0;
+      dsfid = getD bytes 17 0;
+      «afi_locked» = flagOf (getD bytes 18 0);
+      «dsfid_locked» = flagOf (getD bytes 19 0);
+      «ic_reference» = getD bytes 20 0;
+      mode = m i;
+      sequence = t i;
+      held = h i;
+    }

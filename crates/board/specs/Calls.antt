@@ -7,6 +7,8 @@ use lib.Dec.{eqb}
 use lib.IntN.{ℤ, pos}
 use lib.ListN.{length}
 use Rattle.lent.specs.Lent.{refused}
+use Rattle.card.specs.declared.Card.{Card}
+use Rattle.play.specs.declared.Served.{Served}
 use Rattle.play.specs.Events.{Outcome, frameEvent, markEvent, offEvent}
 use Rattle.board.specs.Record.{recordLength, cardOf, recordOf}
 
@@ -19,15 +21,22 @@ pub record Left : Type 0 where
   pub answer : List ℕ
 
 -- the answer's length, 0 for silence, or minus the number of the refusal
-unfoldable pub backOf : Outcome → ℤ
-backOf o = cond (eqb (o .number) 0) (pos (o .told)) (refused (o .number))
+unfoldable pub backOf : ℕ → ℕ → ℤ
+backOf number told = cond (eqb number 0) (pos told) (refused number)
 
 -- "All change nothing.": a call that is served writes the next record
-unfoldable pub bytesAfter : Outcome → List ℕ → List ℕ
-bytesAfter o bytes = cond (eqb (o .number) 0) (recordOf (o .card) bytes) bytes
+unfoldable pub bytesAfter : ℕ → Card → List ℕ → List ℕ
+bytesAfter number card bytes = cond (eqb number 0) (recordOf card bytes) bytes
 
 unfoldable pub settled : Outcome → List ℕ → Left
-settled o bytes = record { back = backOf o; bytes = bytesAfter o bytes; memory = o .memory; locks = o .locks; answer = o .answer }
+settled o bytes =
+    record {
+      back = backOf (o .number) (o .told);
+      bytes = bytesAfter (o .number) (o .card) bytes;
+      memory = o .memory;
+      locks = o .locks;
+      answer = o .answer;
+    }
 
 -- a record of another length is number 1
 unfoldable pub called : List ℕ → List ℕ → List ℕ → List ℕ → Outcome → Left
@@ -53,7 +62,7 @@ pub record Gives (l : Left) (r : ℤ) (bytes memory locks answer : List ℕ) : T
   pub locks-left : locks ≡ l .locks
   pub answer-left : answer ≡ l .answer
 
--- the same for the record alone
-pub record Settles (o : Outcome) (found : List ℕ) (r : ℤ) (bytes : List ℕ) : Type 0 where
-  pub back : r ≡ backOf o
-  pub bytes-left : bytes ≡ bytesAfter o found
+-- the same for the number and the record alone
+pub record Settles (s : Served) (found : List ℕ) (r : ℤ) (bytes : List ℕ) : Type 0 where
+  pub back : r ≡ backOf (s .number) (s .length)
+  pub bytes-left : bytes ≡ bytesAfter (s .number) (s .card) found

@@ -2,13 +2,15 @@
 ghost use mathlib.Core.Path.{_≡_};
 ghost use Prim.Native.Nat.{_+_, _*_, _≤_, _<_};
 ghost use lib.ListN.{length};
-ghost use Rattle.lent.specs.Lent.{placed};
+ghost use Rattle.lent.specs.Lent.{placed, refused};
 ghost use Rattle.frames.specs.Field.{fieldAt};
 ghost use Rattle.board.specs.Record.{modeOf, sequenceOf, heldOf, cardOf, flagByte, modeByte, runningByte, slotByte, lengthByte, maskField, heldByte, stateBytes, recordOf};
+ghost use Rattle.board.specs.Calls.{Settles};
 use card::Card;
 use card::Held;
 use card::Mode;
 use card::Sequence;
+use play::Served;
 
 // The length of the record.
 pub(crate) const LENGTH: usize = 40;
@@ -173,4 +175,26 @@ pub(crate) fn put_card(card: Card, bytes: &mut [u8])
     frames::put_field(bytes, 12, 4, card.size as u64);
     put_state(card, bytes);
     frames::put_field(bytes, 32, 8, mask_field(sequence));
+}
+
+// Minus the number of a refusal.
+fn minus(number: u8) -> i64
+    ensures { λ r. ⌜ r ≡ refused number ⌝ }
+{
+    -(number as i64)
+}
+
+// The number that a call gives back. Where it is served, the next record is put.
+pub(crate) fn settle(served: Served, bytes: &mut [u8]) -> i64
+    requires { ⌜ length (now bytes) ≡ 40 ⌝ }
+    requires { ⌜ served .length ≤ 9223372036854775807 ⌝ }
+    ensures { λ r. ⌜ Settles served (now (bytes .entry)) r (now (bytes .exit)) ⌝ }
+{
+    let number = served.number;
+    if number != 0 {
+        return minus(number);
+    }
+    let card = served.card;
+    put_card(card, bytes);
+    served.length as i64
 }
