@@ -1,6 +1,5 @@
 //! The functions of the C header, as the archive exports them.
 
-#[cfg(feature = "card")]
 pub mod card;
 
 use std::marker::PhantomData;

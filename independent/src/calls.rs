@@ -1,7 +1,6 @@
 //! Every call of the header, made on both sides and compared: the answer, and
 //! every byte of every lent buffer and its guards.
 
-#[cfg(feature = "card")]
 mod card;
 
 use std::ops::Range;
@@ -25,7 +24,6 @@ pub struct Calls {
     sealing: Area,
     coding: Area,
     decoding: Area,
-    #[cfg(feature = "card")]
     card: card::Areas,
 }
 
@@ -41,7 +39,6 @@ impl Calls {
             // Hold the longest track, and what a garbage track might decode to.
             coding: Area::new(4200),
             decoding: Area::new(1100),
-            #[cfg(feature = "card")]
             card: card::Areas::new(),
         }
     }

@@ -1,6 +1,5 @@
 //! The groups of the comparison, each over one kind of arguments.
 
-#[cfg(feature = "card")]
 mod cards;
 mod checks;
 mod codings;
@@ -29,7 +28,6 @@ pub const GROUPS: &[(&str, Group)] = &[
     ("sealing", sealing::run),
     ("checks", checks::run),
     ("null buffers", null_buffers::run),
-    #[cfg(feature = "card")]
     ("cards", cards::run),
 ];
 

@@ -6,8 +6,6 @@
 //!     --manifest-path independent/Cargo.toml
 //! ```
 //!
-//! With `--features card` the card's calls are compared too.
-//!
 //! Takes a seed, in decimal, or none. VECTORS_DIR names the vectors' folder.
 //! Status 0: no difference. 1: some, or a hole. 2: vectors unreadable.
 

@@ -7,9 +7,7 @@ use crate::reference::card::Said;
 use crate::reference::check::{check, is_sound, sealed};
 use crate::reference::coder::code;
 use crate::reference::decoder::{Decoded, Decoder};
-#[cfg(not(feature = "card"))]
-use crate::reference::record::serve;
-use crate::reference::record::{Event, Tag};
+use crate::reference::record::Tag;
 use crate::reference::{Refusal, FRAME_MAX};
 use crate::vectors::{CardStep, CheckCase, Side, TrackCase};
 
@@ -59,7 +57,7 @@ pub fn run_cards(calls: &mut Calls, steps: &[(String, CardStep)]) {
             }
             CardStep::Event(event, answer) => (event, answer),
         };
-        let outcome = serve_both(calls, event, &mut tag, 1000);
+        let outcome = calls.card(event, &mut tag, 1000);
         let (right, said) = match &outcome {
             Ok(Said::Silence(why)) => (answer.is_none(), format!("silence, {why}")),
             Ok(Said::Answer(why, bytes)) => {
@@ -69,22 +67,6 @@ pub fn run_cards(calls: &mut Calls, steps: &[(String, CardStep)]) {
         };
         agree(calls, place, right, || said);
     }
-}
-
-/// Serves by the reference, and by a board that has the calls.
-#[cfg(feature = "card")]
-fn serve_both(
-    calls: &mut Calls,
-    event: &Event,
-    tag: &mut Tag,
-    room: usize,
-) -> Result<Said, Refusal> {
-    calls.card(event, tag, room)
-}
-
-#[cfg(not(feature = "card"))]
-fn serve_both(_: &mut Calls, event: &Event, tag: &mut Tag, room: usize) -> Result<Said, Refusal> {
-    serve(event, tag, room)
 }
 
 fn is_track(said: &Result<Vec<u8>, Refusal>, case: &TrackCase) -> bool {
