@@ -4,3 +4,5 @@ pub mod Putting
 pub mod Minus
 pub mod Told
 pub mod Ways
+pub mod RoundTrip
+pub mod Unique

@@ -1,4 +1,5 @@
-use borrow.Author.Needs.{needs}
+-- `board::ek_card_mark` meets its contract: a record of another length, or the event settled (Ways.antt); the answer's length is at
+-- most its room (Told.antt). Assumes nothing.
 use borrow.Author.Needs.{needs, sfits-of}
 use native.Mathlib.Omega.{arith}
 use mir.ValLaws.{toZ-ofZ}
@@ -8,41 +9,48 @@ use Rattle.board.proofs.Ways.{gives-short, gives-settled}
 use Rattle.board.specs.Calls.{markCall}
 use Rattle.board.proofs.ek_card_mark.Statement.{statement}
 use Rattle.board.proofs.ek_card_mark.Tie as tie
-use Rattle.board.proofs.ek_card_mark.Reads as reads
-use Rattle.board.proofs.ek_card_mark.Lts as lts
-use Rattle.board.proofs.record.card_of.Reads as card-of-reads
-use Rattle.board.proofs.record.settle.Reads as settle-reads
-use Rattle.play.proofs.events.mark.Reads as mark-reads
 
--- src/lib.rt:77:9
 returns : tie.Need-returns
 unfolding markCall
 returns c = gives-short _ _ _ _ _ (c .if1 .taken)
 
--- src/lib.rt:79:9
 card-of-requires : tie.Need-card-of-requires
 card-of-requires c κs = search needs
 
--- src/lib.rt:80:9
 mark-requires : tie.Need-mark-requires
 mark-requires c κs = search needs
 
--- src/lib.rt:81:5
 settle-requires : tie.Need-settle-requires
-settle-requires c κs = (c .before .before .before .before .before .before .before .if1 .left, omega (arith, c .before .before .before .mark .ensures .told, mark-told (c .before .before .before .before .before .card-of .result) (c .before .before .before .before .before .before .before .before .before .before .before .before .args .memory .now) (c .before .before .before .before .before .before .before .before .before .before .before .before .args .locks .now) (c .before .before .before .before .before .before .before .before .before .before .before .before .args .answer .now), c .before .before .before .before .before .before .before .before .before .before .before .before .good .1 .1 .1 .0))
+settle-requires c κs =
+    let first = c .before .before .before .before .before .before .before .if1 in
+    let mark = c .before .before .before .mark in
+    let card-of = c .before .before .before .before .before .card-of in
+    let args = c .before .before .before .before .before .before .before .before .before .before .before .before .args in
+    let owned = c .before .before .before .before .before .before .before .before .before .before .before .before .good in (
+      first .left,
+      omega (
+        arith,
+        mark .ensures .told,
+        mark-told (card-of .result) (args .memory .now) (args .locks .now) (args .answer .now),
+        owned .1 .1 .1 .0,
+      ),
+    )
 
--- src/lib.rt:67:1
 same-length : tie.Need-same-length
 same-length c = search needs
 
--- src/lib.rt:67:1
 same-length-2 : tie.Need-same-length-2
 same-length-2 c = search needs
 
--- src/lib.rt:67:1
 returns-2 : tie.Need-returns-2
 unfolding markCall
-returns-2 c = rw (toZ-ofZ w64 (c .before .before .settle .result) (sfits-of (c .before .before .settle .ok))) (gives-settled _ _ _ _ _ (c .before .before .before .before .before .before .before .before .before .before .if1 .left) (rw (c .before .before .before .before .before .before .before .before .card-of .ensures) at (c .before .before .before .before .before .before .mark .ensures)) (c .before .before .settle .ensures))
+returns-2 c =
+    let settle = c .before .before .settle in
+    let first = c .before .before .before .before .before .before .before .before .before .before .if1 in
+    let card-of = c .before .before .before .before .before .before .before .before .card-of in
+    let mark = c .before .before .before .before .before .before .mark in
+    rw (toZ-ofZ w64 (settle .result) (sfits-of (settle .ok)))
+    (gives-settled _ _ _ _ _ (first .left) (rw (card-of .ensures) at (mark .ensures)) (settle .ensures))
 
 pub ek-card-mark-spec : {M : Type 1} → statement M
 ek-card-mark-spec =

@@ -1,24 +1,19 @@
+-- `board::record::mask_field` meets its contract: by cases. Assumes nothing.
 use borrow.Author.Needs.{needs}
 use Rattle.board.specs.Record.{maskField}
 use Rattle.board.proofs.record.mask_field.Statement.{statement}
 use Rattle.board.proofs.record.mask_field.Tie as tie
-use Rattle.board.proofs.record.mask_field.Reads as reads
-use Rattle.board.proofs.record.mask_field.Lts as lts
 
--- src/record.rt:135:27
 enum-told : tie.Need-enum-told
 enum-told c = search needs
 
--- src/record.rt:136:33
 enum-known-sequence : tie.Need-enum-known-sequence
 enum-known-sequence c = search needs
 
--- src/record.rt:131:1
 returns : tie.Need-returns
 unfolding maskField
 returns c = rw (c .enum-told .given .1)
 
--- src/record.rt:131:1
 returns-2 : tie.Need-returns-2
 unfolding maskField
 returns-2 c = rw (c .before .sequence .given .1)

@@ -1,33 +1,26 @@
+-- `board::record::mode_byte` meets its contract: by cases. Assumes nothing.
 use borrow.Author.Needs.{needs}
 use Rattle.board.specs.Record.{modeByte}
 use Rattle.board.proofs.record.mode_byte.Statement.{statement}
 use Rattle.board.proofs.record.mode_byte.Tie as tie
-use Rattle.board.proofs.record.mode_byte.Reads as reads
-use Rattle.board.proofs.record.mode_byte.Lts as lts
 
--- src/record.rt:98:24
 enum-told : tie.Need-enum-told
 enum-told c = search needs
 
--- src/record.rt:99:24
 enum-told-2 : tie.Need-enum-told-2
 enum-told-2 c = search needs
 
--- src/record.rt:100:27
 enum-told-3 : tie.Need-enum-told-3
 enum-told-3 c = search needs
 
--- src/record.rt:94:1
 returns : tie.Need-returns
 unfolding modeByte
 returns c = rw (c .enum-told .given .1)
 
--- src/record.rt:94:1
 returns-2 : tie.Need-returns-2
 unfolding modeByte
 returns-2 c = rw (c .enum-told2 .given .1)
 
--- src/record.rt:94:1
 returns-3 : tie.Need-returns-3
 unfolding modeByte
 returns-3 c = rw (c .enum-told3 .given .1)

@@ -1,24 +1,19 @@
+-- `board::record::running_byte` meets its contract: by cases. Assumes nothing.
 use borrow.Author.Needs.{needs}
 use Rattle.board.specs.Record.{runningByte}
 use Rattle.board.proofs.record.running_byte.Statement.{statement}
 use Rattle.board.proofs.record.running_byte.Tie as tie
-use Rattle.board.proofs.record.running_byte.Reads as reads
-use Rattle.board.proofs.record.running_byte.Lts as lts
 
--- src/record.rt:108:27
 enum-told : tie.Need-enum-told
 enum-told c = search needs
 
--- src/record.rt:109:39
 enum-told-2 : tie.Need-enum-told-2
 enum-told-2 c = search needs
 
--- src/record.rt:104:1
 returns : tie.Need-returns
 unfolding runningByte
 returns c = rw (c .enum-told .given .1)
 
--- src/record.rt:104:1
 returns-2 : tie.Need-returns-2
 unfolding runningByte
 returns-2 c = rw (c .enum-told2 .given .1)

@@ -1,16 +1,13 @@
+-- `board::record::sequence_of` meets its contract: by the one test. Assumes nothing.
 use borrow.Author.Tests.{eq-eqb, ne-eqb}
 use Rattle.board.specs.Record.{sequenceOf}
 use Rattle.board.proofs.record.sequence_of.Statement.{statement}
 use Rattle.board.proofs.record.sequence_of.Tie as tie
-use Rattle.board.proofs.record.sequence_of.Reads as reads
-use Rattle.board.proofs.record.sequence_of.Lts as lts
 
--- src/record.rt:46:9
 returns : tie.Need-returns
 unfolding sequenceOf
 returns c = rw (eq-eqb _ _ (c .if1 .taken))
 
--- src/record.rt:42:1
 returns-2 : tie.Need-returns-2
 unfolding sequenceOf
 returns-2 c = rw (ne-eqb _ _ (c .if1 .left))

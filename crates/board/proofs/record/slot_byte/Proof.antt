@@ -1,24 +1,19 @@
+-- `board::record::slot_byte` meets its contract: by cases. Assumes nothing.
 use borrow.Author.Needs.{needs}
 use Rattle.board.specs.Record.{slotByte}
 use Rattle.board.proofs.record.slot_byte.Statement.{statement}
 use Rattle.board.proofs.record.slot_byte.Tie as tie
-use Rattle.board.proofs.record.slot_byte.Reads as reads
-use Rattle.board.proofs.record.slot_byte.Lts as lts
 
--- src/record.rt:117:27
 enum-told : tie.Need-enum-told
 enum-told c = search needs
 
--- src/record.rt:118:27
 enum-known-sequence : tie.Need-enum-known-sequence
 enum-known-sequence c = search needs
 
--- src/record.rt:113:1
 returns : tie.Need-returns
 unfolding slotByte
 returns c = rw (c .enum-told .given .1)
 
--- src/record.rt:113:1
 returns-2 : tie.Need-returns-2
 unfolding slotByte
 returns-2 c = rw (c .before .sequence .given .1)
