@@ -49,22 +49,33 @@ unfolding replied
 reply-told c memory locks found reply p q =
     told-most (replyBytes c memory locks reply) (length found) (reply-room c memory locks reply (length found) p q)
 
-pub frame-told : (c : Card) (frame memory locks found : List ℕ) → frameEvent c frame memory locks found .told ≤ length found
+frame-fits : (c : Card) (frame memory locks found : List ℕ) → frameEvent c frame memory locks found .told ≤ length found
 unfolding frameEvent carriedOut
-frame-told c frame memory locks found =
+frame-fits c frame memory locks found =
     event-told c memory locks found (carriedOut (decided c locks frame) frame memory locks found) (λ e.
     let ready = deed-ready c frame (length memory) locks (length found) (refusal c (length memory) locks (length found)) (decided c locks frame) refl e refl in
     reply-told (decided c locks frame .card) _ _ found (decided c locks frame .reply) (ready .reply) (ready .ready .fits))
 
-pub mark-told : (c : Card) (memory locks found : List ℕ) → markEvent c memory locks found .told ≤ length found
+mark-fits : (c : Card) (memory locks found : List ℕ) → markEvent c memory locks found .told ≤ length found
 unfolding markEvent
-mark-told c memory locks found =
+mark-fits c memory locks found =
     event-told c memory locks found (replied (marked c .card) memory locks (marked c .reply) found) (λ e.
     let ready = mark-ready c (length memory) locks (length found) (refusal c (length memory) locks (length found)) (marked c) refl e refl in
     reply-told (marked c .card) memory locks found (marked c .reply) (ready .reply) (ready .ready .fits))
 
-pub off-told : (c : Card) (memory locks found : List ℕ) → offEvent c memory locks found .told ≤ length found
+off-fits : (c : Card) (memory locks found : List ℕ) → offEvent c memory locks found .told ≤ length found
 unfolding offEvent replied
-off-told c memory locks found =
+off-fits c memory locks found =
     event-told c memory locks found (replied (poweredOff c) memory locks Silence found) (λ e.
     omega (arith, told-silence (replyBytes (poweredOff c) memory locks Silence) found (silence-length (poweredOff c) memory locks)))
+
+-- the same of a length that is told
+
+pub frame-told : (c : Card) (frame memory locks found : List ℕ) {n : ℕ} → n ≡ frameEvent c frame memory locks found .told → n ≤ length found
+frame-told c frame memory locks found e = omega (arith, frame-fits c frame memory locks found)
+
+pub mark-told : (c : Card) (memory locks found : List ℕ) {n : ℕ} → n ≡ markEvent c memory locks found .told → n ≤ length found
+mark-told c memory locks found e = omega (arith, mark-fits c memory locks found)
+
+pub off-told : (c : Card) (memory locks found : List ℕ) {n : ℕ} → n ≡ offEvent c memory locks found .told → n ≤ length found
+off-told c memory locks found e = omega (arith, off-fits c memory locks found)

@@ -24,16 +24,9 @@ settle-requires : tie.Need-settle-requires
 settle-requires c κs =
     let first = c .before .before .before .before .before .before .before .before .before .before .before .before .before .if1 in
     let frame = c .before .before .before .before .before .before .before .frame in
-    let card-of = c .before .before .before .before .before .before .before .before .before .before .before .card-of in
-    let args = c .before .before .before .before .before .before .before .before .before .before .before .before .before .before .before .before .before .before .before .args in
     let owned = c .before .before .before .before .before .before .before .before .before .before .before .before .before .before .before .before .before .before .before .good in (
       first .left,
-      omega (
-        arith,
-        frame .ensures .told,
-        frame-told (card-of .result) (args .frame .now) (args .memory .now) (args .locks .now) (args .answer .now),
-        owned .1 .1 .1 .1 .0,
-      ),
+      omega (arith, frame-told _ _ _ _ _ (frame .ensures .told), owned .1 .1 .1 .1 .0),
     )
 
 same-length : tie.Need-same-length

@@ -24,16 +24,9 @@ settle-requires : tie.Need-settle-requires
 settle-requires c κs =
     let first = c .before .before .before .before .before .before .before .if1 in
     let mark = c .before .before .before .mark in
-    let card-of = c .before .before .before .before .before .card-of in
-    let args = c .before .before .before .before .before .before .before .before .before .before .before .before .args in
     let owned = c .before .before .before .before .before .before .before .before .before .before .before .before .good in (
       first .left,
-      omega (
-        arith,
-        mark .ensures .told,
-        mark-told (card-of .result) (args .memory .now) (args .locks .now) (args .answer .now),
-        owned .1 .1 .1 .0,
-      ),
+      omega (arith, mark-told _ _ _ _ (mark .ensures .told), owned .1 .1 .1 .0),
     )
 
 same-length : tie.Need-same-length
