@@ -29,6 +29,15 @@ fn four(bytes: &[u8], at: usize) -> u32
     join(bytes[at], bytes[at + 1], bytes[at + 2], bytes[at + 3])
 }
 
+fn eight(bytes: &[u8], at: usize) -> u64
+    requires { ⌜ at + 8 ≤ length (now bytes) ⌝ }
+    ensures { λ r. ⌜ r ≡ fieldAt (now (bytes .entry)) at 8 ⌝ }
+{
+    let low = four(bytes, at);
+    let high = four(bytes, at + 4);
+    (low as u64) + 4294967296 * (high as u64)
+}
+
 fn mode_of(b: u8) -> Mode
     ensures { λ r. ⌜ r ≡ modeOf b ⌝ }
 {
@@ -70,14 +79,14 @@ pub(crate) fn card_of(bytes: &[u8]) -> Card
     Card {
         blocks: four(bytes, 8),
         size: four(bytes, 12),
-        uid: frames::field(bytes, 0, 8),
+        uid: eight(bytes, 0),
         afi: bytes[16],
         dsfid: bytes[17],
         afi_locked: 0 < bytes[18],
         dsfid_locked: 0 < bytes[19],
         ic_reference: bytes[20],
         mode: mode_of(bytes[21]),
-        sequence: sequence_of(bytes[22], bytes[23], bytes[24], frames::field(bytes, 32, 8)),
+        sequence: sequence_of(bytes[22], bytes[23], bytes[24], eight(bytes, 32)),
         held: held_of(bytes[25]),
     }
 }

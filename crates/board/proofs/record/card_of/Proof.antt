@@ -11,8 +11,8 @@ four-requires c κs = search needs
 four-requires-2 : tie.Need-four-requires-2
 four-requires-2 c κs = search needs
 
-field-requires : tie.Need-field-requires
-field-requires c κs = search needs
+eight-requires : tie.Need-eight-requires
+eight-requires c κs = search needs
 
 shared-slice-read-t6 : tie.Need-shared-slice-read-t6
 shared-slice-read-t6 c = search needs
@@ -44,8 +44,8 @@ shared-slice-read-sequence-of-2 c = search needs
 shared-slice-read-sequence-of-3 : tie.Need-shared-slice-read-sequence-of-3
 shared-slice-read-sequence-of-3 c = search needs
 
-field-requires-2 : tie.Need-field-requires-2
-field-requires-2 c κs = search needs
+eight-requires-2 : tie.Need-eight-requires-2
+eight-requires-2 c κs = search needs
 
 sequence-of-requires : tie.Need-sequence-of-requires
 sequence-of-requires c κs = search needs
@@ -61,12 +61,12 @@ unfolding flagOf
 returns c =
     let four = c .before .before .before .before .before .before .before .before .before .before .before .before .before .before .before .before .four in
     let four2 = c .before .before .before .before .before .before .before .before .before .before .before .before .before .before .before .four2 in
-    let field = c .before .before .before .before .before .before .before .before .before .before .before .before .before .before .field in
+    let eight = c .before .before .before .before .before .before .before .before .before .before .before .before .before .before .eight in
     let mode-of = c .before .before .before .before .before .before .before .mode-of in
     let sequence-of = c .before .before .sequence-of in
-    let field2 = c .before .before .before .field2 in
+    let eight2 = c .before .before .before .eight2 in
     let held-of = c .held-of in
-    card-read _ (four .ensures) (four2 .ensures) (field .ensures) (mode-of .ensures) (sequence-of .ensures) (field2 .ensures) (held-of .ensures)
+    card-read _ (four .ensures) (four2 .ensures) (eight .ensures) (mode-of .ensures) (sequence-of .ensures) (eight2 .ensures) (held-of .ensures)
 
 pub card-of-spec : {M : Type 1} → statement M
 card-of-spec =
@@ -74,7 +74,7 @@ card-of-spec =
     (tie.spec
     four-requires
     four-requires-2
-    field-requires
+    eight-requires
     shared-slice-read-t6
     shared-slice-read-t8
     shared-slice-read-t10
@@ -85,7 +85,7 @@ card-of-spec =
     shared-slice-read-sequence-of
     shared-slice-read-sequence-of-2
     shared-slice-read-sequence-of-3
-    field-requires-2
+    eight-requires-2
     sequence-of-requires
     shared-slice-read-held-of
     held-of-requires
