@@ -21,7 +21,8 @@ use Rattle.walk.specs.declared.Kind.the-variants as kind
 use Rattle.walk.specs.Marks.{deepest}
 use Rattle.walk.specs.Record.{mostRounds, maskLength, isRunning, isAccepted, remade, ended, atNextSlot, openedAt, opened, started}
 use Rattle.walk.specs.Hear.{uidOf, isClean, judged, endsAtOnce, noted, listNoted, turned, passed, walkAfter, listAfter, hearing}
-use Rattle.field.specs.Replies.{Arrival, Walked, heardIn, heardAll, Holds, anyReplies}
+use Rattle.field.specs.Field.{Arrival}
+use Rattle.field.specs.Replies.{Walked, heardIn, heardAll, Holds, anyReplies}
 use Rattle.field.proofs.Ahead.{slotTail, ahead}
 use Rattle.field.proofs.AnyReplies.{alone, Walks, Fits, start-walks, note-walks, next-walks, open-walks}
 use Rattle.field.proofs.Accepted.{mask-below, walks-accepted, ended-accepted}

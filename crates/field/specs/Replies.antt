@@ -6,14 +6,9 @@ use mathlib.Core.Path.{_≡_}
 use lib.ListN.{length, take}
 use Rattle.tails.specs.Sum.{times}
 use Rattle.walk.specs.declared.Walk.{Walk}
-use Rattle.walk.specs.declared.Kind.{Kind}
 use Rattle.walk.specs.Record.{isAccepted, isRunning, started}
 use Rattle.walk.specs.Hear.{Hearing, hearing}
-
--- what arrives in a slot
-pub record Arrival : Type 0 where
-  pub kind : Kind
-  pub bytes : List ℕ
+use Rattle.field.specs.Field.{Arrival}
 
 -- a walk with its list
 pub record Walked : Type 0 where
