@@ -3,10 +3,11 @@
 lib := target/staticlib/libboard.a
 c99 := -std=c99 -Wall -Wextra -Werror -pedantic
 
-.PHONY: help lib demo test compare bench
+.PHONY: help lib demo tag test compare bench
 
 help:
 	@echo 'make demo     build the library, code an inventory request from C and decode it back'
+	@echo 'make tag      play a tag from C: inventory, read, write, slot mark'
 	@echo 'make lib      prove the library and write $(lib)'
 	@echo 'make test     the whole gate: every proof, every must-fail edit, every comparison'
 	@echo 'make compare  hold the library against the independent implementation'
@@ -19,6 +20,11 @@ demo: lib
 	mkdir -p target/c
 	$(CC) $(c99) -O2 -Iinclude -o target/c/demo examples/inventory.c $(lib)
 	target/c/demo
+
+tag: lib
+	mkdir -p target/c
+	$(CC) $(c99) -O2 -Iinclude -o target/c/tag examples/tag.c $(lib)
+	target/c/tag
 
 test:
 	bash .ci/run

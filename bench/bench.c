@@ -1,12 +1,14 @@
 /*
- * The library's check, coder and decoder beside the same in plain C. Both take
- * turns at the clock. A machine is never quite still, so each figure is the
- * median of many rounds. The script run makes a table of what is printed here.
+ * The library's check, coder, decoder and card beside the same in plain C.
+ * Both take turns at the clock. A machine is never quite still, so each figure
+ * is the median of many rounds. The script run makes a table of what is printed
+ * here.
  */
 #define _POSIX_C_SOURCE 199309L
 
 #include <stdio.h>
 #include <stdlib.h>
+#include <string.h>
 #include <time.h>
 
 #include "espenknoten.h"
@@ -19,41 +21,64 @@
  * weigh much in it. */
 #define TURN_NS 1e6
 
+/* The shape of the cards. */
+#define BLOCKS 32
+#define SIZE 4
+#define ROOM EK_CARD_ROOM(BLOCKS, SIZE)
+
 struct side {
     uint16_t (*check)(const uint8_t *, size_t);
     int64_t (*code)(const uint8_t *, size_t, uint8_t, uint8_t *, size_t);
     int64_t (*decode)(const uint8_t *, size_t, uint8_t *, size_t);
+    int64_t (*frame)(uint8_t *, size_t, const uint8_t *, size_t, uint8_t *,
+                     size_t, uint8_t *, size_t, uint8_t *, size_t);
+    int64_t (*mark)(uint8_t *, size_t, const uint8_t *, size_t, const uint8_t *,
+                    size_t, uint8_t *, size_t);
 };
 
-static const struct side OURS = {ek_check, ek_code, ek_decode};
-static const struct side PLAIN = {plain_check, plain_code, plain_decode};
+static const struct side OURS = {ek_check, ek_code, ek_decode, ek_card_frame,
+                                 ek_card_mark};
+static const struct side PLAIN = {plain_check, plain_code, plain_decode,
+                                  plain_card_frame, plain_card_mark};
 
-enum task { CHECK, CODE, DECODE };
+enum task { CHECK, CODE, DECODE, FRAME, MARK };
 
+/* A frame's row has the message that the cards are sent. */
 struct row {
     const char *name;
     enum task task;
     uint8_t coding;
     size_t length;
+    uint8_t message[4];
 };
 
 static const struct row ROWS[] = {
-    {"check, 10 bytes", CHECK, 0, 10},
-    {"check, 64 bytes", CHECK, 0, 64},
-    {"coder, 1 of 4, 16 bytes", CODE, EK_ONE_OF_4, 16},
-    {"coder, 1 of 4, 64 bytes", CODE, EK_ONE_OF_4, 64},
-    {"coder, 1 of 256, 16 bytes", CODE, EK_ONE_OF_256, 16},
-    {"coder, 1 of 256, 64 bytes", CODE, EK_ONE_OF_256, 64},
-    {"decoder, 1 of 4, 16 bytes", DECODE, EK_ONE_OF_4, 16},
-    {"decoder, 1 of 4, 64 bytes", DECODE, EK_ONE_OF_4, 64},
-    {"decoder, 1 of 256, 16 bytes", DECODE, EK_ONE_OF_256, 16},
-    {"decoder, 1 of 256, 64 bytes", DECODE, EK_ONE_OF_256, 64},
+    {"check, 10 bytes", CHECK, 0, 10, {0}},
+    {"check, 64 bytes", CHECK, 0, 64, {0}},
+    {"coder, 1 of 4, 16 bytes", CODE, EK_ONE_OF_4, 16, {0}},
+    {"coder, 1 of 4, 64 bytes", CODE, EK_ONE_OF_4, 64, {0}},
+    {"coder, 1 of 256, 16 bytes", CODE, EK_ONE_OF_256, 16, {0}},
+    {"coder, 1 of 256, 64 bytes", CODE, EK_ONE_OF_256, 64, {0}},
+    {"decoder, 1 of 4, 16 bytes", DECODE, EK_ONE_OF_4, 16, {0}},
+    {"decoder, 1 of 4, 64 bytes", DECODE, EK_ONE_OF_4, 64, {0}},
+    {"decoder, 1 of 256, 16 bytes", DECODE, EK_ONE_OF_256, 16, {0}},
+    {"decoder, 1 of 256, 64 bytes", DECODE, EK_ONE_OF_256, 64, {0}},
+    {"card, inventory request", FRAME, 0, 3, {0x06, 0x01, 0x00}},
+    {"card, read of a block", FRAME, 0, 3, {0x02, 0x20, 0x03}},
+    {"card, read of 32, Option", FRAME, 0, 4, {0x42, 0x23, 0x00, 0x1F}},
+    {"card, slot mark", MARK, 0, 0, {0}},
 };
 #define ROW_COUNT (sizeof ROWS / sizeof ROWS[0])
 
 static uint8_t frames[FRAMES][EK_FRAME_MAX];
 static uint8_t tracks[FRAMES][EK_TRACK_MAX];
 static size_t track_length;
+
+/* A card for each frame: its record as every call finds it, and the rest. */
+static uint8_t records[FRAMES][EK_CARD_RECORD];
+static uint8_t memories[FRAMES][BLOCKS * SIZE];
+static uint8_t locks[FRAMES][BLOCKS];
+static uint8_t sealed[4 + 2];
 
 /* Nanoseconds of each turn, and how often a turn takes all frames. */
 static double ours[ROW_COUNT][ROUNDS], plain[ROW_COUNT][ROUNDS];
@@ -84,6 +109,39 @@ static void fill_tracks(const struct row *row)
     }
 }
 
+/* Cards in slot 4 of a sequence, which speak in slot 5; a frame ends it. */
+static void fill_cards(void)
+{
+    for (size_t f = 0; f < FRAMES; f++) {
+        memcpy(records[f] + EK_CARD_UID, frames[f], 8);
+        records[f][EK_CARD_UID] = (uint8_t)(16 * f + 5);
+        records[f][EK_CARD_BLOCKS] = BLOCKS;
+        records[f][EK_CARD_SIZE] = SIZE;
+        records[f][EK_CARD_SEQUENCE] = 1;
+        records[f][EK_CARD_SLOT] = 4;
+        for (size_t i = 0; i < sizeof memories[f]; i++) {
+            memories[f][i] = frames[f][i % EK_FRAME_MAX];
+        }
+        locks[f][f] = 1;
+    }
+}
+
+static void fill_message(const struct row *row)
+{
+    memcpy(sealed, row->message, row->length);
+    ek_seal(sealed, sizeof sealed, row->length);
+}
+
+/* What a row's turn works on. */
+static void prepare(const struct row *row)
+{
+    if (row->task == FRAME) {
+        fill_message(row);
+    } else if (row->task != MARK) {
+        fill_tracks(row);
+    }
+}
+
 static double now_ns(void)
 {
     struct timespec t;
@@ -95,7 +153,7 @@ static double now_ns(void)
 static double turn(const struct side *side, const struct row *row,
                    unsigned count)
 {
-    uint8_t frame[EK_FRAME_MAX];
+    uint8_t frame[EK_FRAME_MAX], record[EK_CARD_RECORD], answer[ROOM];
     uint64_t sum = 0;
     double start = now_ns();
     for (unsigned pass = 0; pass < count; pass++) {
@@ -112,6 +170,20 @@ static double turn(const struct side *side, const struct row *row,
                 sum += (uint64_t)side->decode(tracks[f], track_length, frame,
                                               sizeof frame);
                 sum += frame[0];
+                break;
+            case FRAME:
+                memcpy(record, records[f], sizeof record);
+                sum += (uint64_t)side->frame(
+                    record, sizeof record, sealed, row->length + 2, memories[f],
+                    sizeof memories[f], locks[f], BLOCKS, answer, ROOM);
+                sum += record[EK_CARD_SLOT];
+                break;
+            case MARK:
+                memcpy(record, records[f], sizeof record);
+                sum += (uint64_t)side->mark(record, sizeof record, memories[f],
+                                            sizeof memories[f], locks[f],
+                                            BLOCKS, answer, ROOM);
+                sum += record[EK_CARD_SLOT];
                 break;
             }
         }
@@ -148,13 +220,13 @@ static unsigned passes_for(const struct row *row)
 static void measure(void)
 {
     for (size_t i = 0; i < ROW_COUNT; i++) {
-        fill_tracks(&ROWS[i]);
+        prepare(&ROWS[i]);
         passes[i] = passes_for(&ROWS[i]);
     }
     for (int round = 0; round < ROUNDS; round++) {
         for (size_t i = 0; i < ROW_COUNT; i++) {
             const struct row *row = &ROWS[i];
-            fill_tracks(row);
+            prepare(row);
             if (round % 2 == 0) {
                 ours[i][round] = turn(&OURS, row, passes[i]);
                 plain[i][round] = turn(&PLAIN, row, passes[i]);
@@ -183,6 +255,8 @@ int main(void)
         must_be_same(frames[f]);
     }
     must_refuse_same(frames[0]);
+    must_play_same();
+    fill_cards();
     measure();
     print_rows();
     return 0;

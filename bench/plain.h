@@ -1,5 +1,5 @@
-/* The check, coder and decoder in plain C, with the answers of espenknoten.h:
- * what the benchmark measures the library against. */
+/* The check, coder, decoder and card in plain C, with the answers of
+ * espenknoten.h: what the benchmark measures the library against. */
 #ifndef PLAIN_H
 #define PLAIN_H
 
@@ -13,5 +13,20 @@ int64_t plain_code(const uint8_t *frame, size_t length, uint8_t coding,
 
 int64_t plain_decode(const uint8_t *track, size_t length, uint8_t *frame,
                      size_t room);
+
+int64_t plain_card_frame(uint8_t *record, size_t record_length,
+                         const uint8_t *frame, size_t length, uint8_t *memory,
+                         size_t memory_length, uint8_t *locks,
+                         size_t locks_length, uint8_t *answer, size_t room);
+
+int64_t plain_card_mark(uint8_t *record, size_t record_length,
+                        const uint8_t *memory, size_t memory_length,
+                        const uint8_t *locks, size_t locks_length,
+                        uint8_t *answer, size_t room);
+
+int64_t plain_card_power_off(uint8_t *record, size_t record_length,
+                             const uint8_t *memory, size_t memory_length,
+                             const uint8_t *locks, size_t locks_length,
+                             const uint8_t *answer, size_t room);
 
 #endif

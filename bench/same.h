@@ -11,4 +11,7 @@ void must_be_same(const uint8_t *frame);
 /* Short rooms, wrong codings, tracks cut short and tracks damaged. */
 void must_refuse_same(const uint8_t *frame);
 
+/* Cards through many frames, slot marks and power offs, some of them refused. */
+void must_play_same(void);
+
 #endif

@@ -49,6 +49,10 @@ extern "C" {
 #define EK_TRACK_MAX EK_TRACK_MAX_ONE_OF_256
 
 /* Refusals: minus the numbers of the rules page. */
+#define EK_REFUSED_CARD (-1)            /* a card's record, see below */
+#define EK_REFUSED_CARD_LENGTHS (-2)    /* memory or locks of another length */
+#define EK_REFUSED_CARD_LOCK (-3)       /* a lock byte over 1 */
+#define EK_REFUSED_CARD_ROOM (-4)       /* room for the answer short */
 #define EK_REFUSED_FRAME_OR_CODING (-7) /* frame over 64 bytes, or no coding */
 #define EK_REFUSED_ROOM (-8)            /* room short */
 #define EK_REFUSED_NO_TRACK (-9)        /* not a track */
@@ -98,6 +102,101 @@ int64_t ek_decode(const uint8_t *track, size_t length, uint8_t *frame,
 
 #define EK_DECODED_KIND(r) ((int)((r) / 65536))
 #define EK_DECODED_LENGTH(r) ((size_t)((r) % 65536))
+
+/*
+ * A card, played by its tag's four buffers. All are the caller's, who keeps
+ * them from one call to the next; the first three are the card:
+ *
+ *   record  EK_CARD_RECORD bytes, laid out as below.
+ *   memory  the blocks one after another: blocks * size bytes.
+ *   locks   a byte for each block: 0 open, 1 locked.
+ *   answer  room for what the card says: EK_CARD_ROOM(blocks, size) bytes or
+ *           more. An answer has its check and can be sent as it stands.
+ *
+ * The record, numbers least significant byte first:
+ *
+ *   EK_CARD_UID          8 bytes   the UID, as it is sent
+ *   EK_CARD_BLOCKS       4 bytes   how many blocks, 1 to 256
+ *   EK_CARD_SIZE         4 bytes   how many bytes a block has, 1 to 32
+ *   EK_CARD_AFI          1 byte
+ *   EK_CARD_DSFID        1 byte
+ *   EK_CARD_AFI_LOCKED   1 byte    0 open, all else locked
+ *   EK_CARD_DSFID_LOCKED 1 byte    0 open, all else locked
+ *   EK_CARD_IC           1 byte    IC reference
+ *   EK_CARD_MODE         1 byte    0 Ready, 1 Quiet, all else Selected
+ *   EK_CARD_SEQUENCE     1 byte    0 no slot sequence, all else one runs
+ *   EK_CARD_SLOT         1 byte    its slot, 0 to 15
+ *   EK_CARD_MASK_LENGTH  1 byte    its mask length in bits, 0 to 60
+ *   EK_CARD_HELD         1 byte    the held answer: 0 none, 1 success, all else
+ *                                  an error code
+ *   EK_CARD_FREE         6 bytes   the caller's, never read or written
+ *   EK_CARD_MASK         8 bytes   its mask, with no bit set above its length
+ *
+ * With no sequence its slot, mask length and mask are not read. So a new card
+ * is a record of zeros with a UID, a shape and what else it is to have.
+ *
+ * A call that is served writes the next record: a flag as 0 or 1, the mode as
+ * 0, 1 or 2, and with no sequence its four fields as 0. It returns the answer's
+ * length, or 0 for silence, which leaves the answer's buffer as found.
+ *
+ * Each of the three calls looks for its refusals in this order, and a refused
+ * call has changed no byte of any buffer:
+ *   EK_REFUSED_CARD: the record has another length; blocks or size are outside
+ *   their limits; a sequence runs whose slot is over 15, whose mask length is
+ *   over 60, or whose mask has a bit above it; a held code is none of 0x02,
+ *   0x10, 0x11 and 0x12.
+ *   EK_REFUSED_CARD_LENGTHS: memory_length is not blocks * size, or
+ *   locks_length is not blocks.
+ *   EK_REFUSED_CARD_LOCK: a lock byte is over 1.
+ *   EK_REFUSED_CARD_ROOM: room is less than EK_CARD_ROOM(blocks, size).
+ */
+#define EK_CARD_RECORD 40
+#define EK_CARD_UID 0
+#define EK_CARD_BLOCKS 8
+#define EK_CARD_SIZE 12
+#define EK_CARD_AFI 16
+#define EK_CARD_DSFID 17
+#define EK_CARD_AFI_LOCKED 18
+#define EK_CARD_DSFID_LOCKED 19
+#define EK_CARD_IC 20
+#define EK_CARD_MODE 21
+#define EK_CARD_SEQUENCE 22
+#define EK_CARD_SLOT 23
+#define EK_CARD_MASK_LENGTH 24
+#define EK_CARD_HELD 25
+#define EK_CARD_FREE 26
+#define EK_CARD_MASK 32
+
+/* The room that an answer needs: 3 + blocks * (size + 1), and 32 at least. */
+#define EK_CARD_ROOM(blocks, size)                                             \
+    ((blocks) * ((size) + 1) < 29 ? 32 : 3 + (blocks) * ((size) + 1))
+
+/*
+ * A frame of length bytes arrives, good or bad. May change the record, a block
+ * of the memory or a lock byte.
+ */
+int64_t ek_card_frame(uint8_t *record, size_t record_length,
+                      const uint8_t *frame, size_t length, uint8_t *memory,
+                      size_t memory_length, uint8_t *locks,
+                      size_t locks_length, uint8_t *answer, size_t room);
+
+/*
+ * A slot mark arrives: a held answer is released, or a running sequence goes
+ * on to its next slot.
+ */
+int64_t ek_card_mark(uint8_t *record, size_t record_length,
+                     const uint8_t *memory, size_t memory_length,
+                     const uint8_t *locks, size_t locks_length,
+                     uint8_t *answer, size_t room);
+
+/*
+ * The power goes off: the card is Ready, and its sequence and held answer are
+ * gone. Returns 0 where it is served. The answer's buffer is not written.
+ */
+int64_t ek_card_power_off(uint8_t *record, size_t record_length,
+                          const uint8_t *memory, size_t memory_length,
+                          const uint8_t *locks, size_t locks_length,
+                          const uint8_t *answer, size_t room);
 
 #ifdef __cplusplus
 }

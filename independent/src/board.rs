@@ -1,5 +1,7 @@
 //! The functions of the C header, as the archive exports them.
 
+pub mod card;
+
 use std::marker::PhantomData;
 
 extern "C" {

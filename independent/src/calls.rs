@@ -1,6 +1,8 @@
 //! Every call of the header, made on both sides and compared: the answer, and
 //! every byte of every lent buffer and its guards.
 
+mod card;
+
 use std::ops::Range;
 
 use crate::area::{Area, Noise};
@@ -22,6 +24,7 @@ pub struct Calls {
     sealing: Area,
     coding: Area,
     decoding: Area,
+    card: card::Areas,
 }
 
 impl Calls {
@@ -36,6 +39,7 @@ impl Calls {
             // Hold the longest track, and what a garbage track might decode to.
             coding: Area::new(4200),
             decoding: Area::new(1100),
+            card: card::Areas::new(),
         }
     }
 

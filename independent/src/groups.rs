@@ -1,5 +1,6 @@
 //! The groups of the comparison, each over one kind of arguments.
 
+mod cards;
 mod checks;
 mod codings;
 mod damaged_tracks;
@@ -16,7 +17,7 @@ use crate::random::Random;
 
 pub type Group = fn(&mut Calls, &mut Random);
 
-pub const GROUPS: [(&str, Group); 10] = [
+pub const GROUPS: &[(&str, Group)] = &[
     ("small frames", small_frames::run),
     ("random frames", random_frames::run),
     ("codings", codings::run),
@@ -27,6 +28,7 @@ pub const GROUPS: [(&str, Group); 10] = [
     ("sealing", sealing::run),
     ("checks", checks::run),
     ("null buffers", null_buffers::run),
+    ("cards", cards::run),
 ];
 
 /// Bytes that tracks are made of, and some that almost are.

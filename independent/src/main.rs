@@ -7,7 +7,7 @@
 //! ```
 //!
 //! Takes a seed, in decimal, or none. VECTORS_DIR names the vectors' folder.
-//! Status 0: no difference. 1: some, or an empty group. 2: vectors unreadable.
+//! Status 0: no difference. 1: some, or a hole. 2: vectors unreadable.
 
 mod area;
 mod board;
@@ -51,6 +51,7 @@ fn run() -> Result<bool, String> {
         None => PathBuf::from(concat!(env!("CARGO_MANIFEST_DIR"), "/../vectors")),
     };
     let (checks, tracks) = (vectors::checks(&folder)?, vectors::tracks(&folder)?);
+    let cards = vectors::cards(&folder)?;
 
     println!("seed: {seed}");
     let mut calls = Calls::new(seed);
@@ -59,6 +60,8 @@ fn run() -> Result<bool, String> {
     calls.tally.end_group("vectors of checks");
     published::run_tracks(&mut calls, &tracks);
     calls.tally.end_group("vectors of tracks");
+    published::run_cards(&mut calls, &cards);
+    calls.tally.end_group("vectors of cards");
     for (name, group) in GROUPS {
         group(&mut calls, &mut random);
         calls.tally.end_group(name);

@@ -3,11 +3,13 @@
 
 use crate::calls::Calls;
 use crate::notation::show;
+use crate::reference::card::Said;
 use crate::reference::check::{check, is_sound, sealed};
 use crate::reference::coder::code;
 use crate::reference::decoder::{Decoded, Decoder};
+use crate::reference::record::Tag;
 use crate::reference::{Refusal, FRAME_MAX};
-use crate::vectors::{CheckCase, Side, TrackCase};
+use crate::vectors::{CardStep, CheckCase, Side, TrackCase};
 
 pub fn run_checks(calls: &mut Calls, cases: &[CheckCase]) {
     for case in cases {
@@ -42,6 +44,28 @@ pub fn run_tracks(calls: &mut Calls, cases: &[TrackCase]) {
             agree(calls, &case.place, is_frame(&said, case), || format!("decoded {said:X?}"));
             calls.decode(track, FRAME_MAX);
         }
+    }
+}
+
+pub fn run_cards(calls: &mut Calls, steps: &[(String, CardStep)]) {
+    let mut tag = Tag { record: Vec::new(), memory: Vec::new(), locks: Vec::new() };
+    for (place, step) in steps {
+        let (event, answer) = match step {
+            CardStep::Card(given) => {
+                tag = given.clone();
+                continue;
+            }
+            CardStep::Event(event, answer) => (event, answer),
+        };
+        let outcome = calls.card(event, &mut tag, 1000);
+        let (right, said) = match &outcome {
+            Ok(Said::Silence(why)) => (answer.is_none(), format!("silence, {why}")),
+            Ok(Said::Answer(why, bytes)) => {
+                (answer.as_ref() == Some(bytes), format!("{}, {why}", show(bytes)))
+            }
+            Err(refusal) => (false, format!("{refusal:?}")),
+        };
+        agree(calls, place, right, || said);
     }
 }
 

@@ -7,7 +7,7 @@ pub struct Tally {
     in_group: u64,
     compared: u64,
     different: u64,
-    empty_groups: u64,
+    holes: u64,
 }
 
 impl Tally {
@@ -26,16 +26,21 @@ impl Tally {
     pub fn end_group(&mut self, name: &str) {
         println!("{name}: {} compared", self.in_group);
         if self.in_group == 0 {
-            println!("error: {name} compared nothing");
-            self.empty_groups += 1;
+            self.hole(&format!("{name} compared nothing"));
         }
         self.compared += self.in_group;
         self.in_group = 0;
     }
 
+    /// Something that should have been compared was not.
+    pub fn hole(&mut self, text: &str) {
+        println!("error: {text}");
+        self.holes += 1;
+    }
+
     /// Prints the last line; true if all is well.
     pub fn end(&self) -> bool {
         println!("comparison: {} compared, {} different", self.compared, self.different);
-        self.different == 0 && self.empty_groups == 0
+        self.different == 0 && self.holes == 0
     }
 }

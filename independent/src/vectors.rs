@@ -4,6 +4,8 @@ use std::fs;
 use std::path::Path;
 
 use crate::notation::parse;
+use crate::reference::check::sealed;
+use crate::reference::record::{Event, Tag};
 
 /// A message and its check, or one that is not its check.
 pub struct CheckCase {
@@ -26,6 +28,39 @@ pub struct TrackCase {
     pub coding: Option<u8>,
     pub frame: Side,
     pub track: Side,
+}
+
+/// A line of the card's file.
+pub enum CardStep {
+    /// The card to go on with.
+    Card(Tag),
+    /// An event and its answer with the check, none for silence.
+    Event(Event, Option<Vec<u8>>),
+}
+
+pub fn cards(folder: &Path) -> Result<Vec<(String, CardStep)>, String> {
+    cases(folder, "card.txt", |place, fields| match fields {
+        ["card", record, memory, locks] => {
+            let (record, memory, locks) = (parse(record)?, parse(memory)?, parse(locks)?);
+            Ok((place, CardStep::Card(Tag { record, memory, locks })))
+        }
+        [event, answer] => {
+            let event = match *event {
+                "slot mark" => Event::Mark,
+                "power off" => Event::PowerOff,
+                frame => match frame.strip_prefix("as it stands ") {
+                    Some(whole) => Event::Frame(parse(whole)?),
+                    None => Event::Frame(sealed(&parse(frame)?)),
+                },
+            };
+            let answer = match *answer {
+                "silence" => None,
+                bytes => Some(sealed(&parse(bytes)?)),
+            };
+            Ok((place, CardStep::Event(event, answer)))
+        }
+        _ => Err("neither a card nor an event with its answer".to_string()),
+    })
 }
 
 pub fn checks(folder: &Path) -> Result<Vec<CheckCase>, String> {

@@ -1,10 +1,15 @@
 // The functions that the rack board's C firmware calls, each a thin shell with the promise of the one it calls.
 // include/espenknoten.h declares them.
+mod record;
+
 ghost use mathlib.Core.Path.{_≡_};
 ghost use Rattle.crc.specs.Check.{checkOf};
 ghost use Rattle.frames.specs.Frame.{Seals, isSound};
 ghost use Rattle.tracks.specs.Coder.{Codes};
 ghost use Rattle.tracks.specs.Decoder.{Decodes};
+ghost use Rattle.board.specs.Calls.{frameCall, markCall, offCall, Gives};
+use crate::record::card_of;
+use crate::record::settle;
 
 #[no_mangle]
 pub extern "C" fn ek_check(bytes: &[u8]) -> u16
@@ -39,4 +44,56 @@ pub extern "C" fn ek_decode(track: &[u8], frame: &mut [u8]) -> i64
     ensures { λ r. ⌜ Decodes (now (track .entry)) (now (frame .entry)) r (now (frame .exit)) ⌝ }
 {
     tracks::decoder::decode(track, frame)
+}
+
+#[no_mangle]
+pub extern "C" fn ek_card_frame(
+    bytes: &mut [u8],
+    frame: &[u8],
+    memory: &mut [u8],
+    locks: &mut [u8],
+    answer: &mut [u8],
+) -> i64
+    ensures { λ r. ⌜ Gives (frameCall (now (bytes .entry)) (now (frame .entry)) (now (memory .entry)) (now (locks .entry)) (now (answer .entry))) r (now (bytes .exit)) (now (memory .exit)) (now (locks .exit)) (now (answer .exit)) ⌝ }
+{
+    if bytes.len() != 40 {
+        return -1;
+    }
+    let card = card_of(bytes);
+    let served = play::events::frame(card, frame, memory, locks, answer);
+    settle(served, bytes)
+}
+
+#[no_mangle]
+pub extern "C" fn ek_card_mark(
+    bytes: &mut [u8],
+    memory: &[u8],
+    locks: &[u8],
+    answer: &mut [u8],
+) -> i64
+    ensures { λ r. ⌜ Gives (markCall (now (bytes .entry)) (now (memory .entry)) (now (locks .entry)) (now (answer .entry))) r (now (bytes .exit)) (now (memory .entry)) (now (locks .entry)) (now (answer .exit)) ⌝ }
+{
+    if bytes.len() != 40 {
+        return -1;
+    }
+    let card = card_of(bytes);
+    let served = play::events::mark(card, memory, locks, answer);
+    settle(served, bytes)
+}
+
+#[no_mangle]
+pub extern "C" fn ek_card_power_off(
+    bytes: &mut [u8],
+    memory: &[u8],
+    locks: &[u8],
+    answer: &[u8],
+) -> i64
+    ensures { λ r. ⌜ Gives (offCall (now (bytes .entry)) (now (memory .entry)) (now (locks .entry)) (now (answer .entry))) r (now (bytes .exit)) (now (memory .entry)) (now (locks .entry)) (now (answer .entry)) ⌝ }
+{
+    if bytes.len() != 40 {
+        return -1;
+    }
+    let card = card_of(bytes);
+    let served = play::events::power_off(card, memory, locks, answer);
+    settle(served, bytes)
 }

@@ -1,4 +1,4 @@
--- 01's examples of the card, by computation and by the tests of the definitions. Assumes nothing.
+-- 01's examples of inventory requests, by computation and by the tests of the definitions. Assumes nothing.
 use mathlib.Core.Path.{_≡_, refl, sym, ap, _∙_}
 use mathlib.Core.Bool.{Bool, true, false, cond, _&&_}
 use mathlib.Core.List.{List, [], _∷_}
@@ -12,11 +12,7 @@ use Rattle.frames.specs.Flags.{flagsOf}
 use Rattle.frames.specs.Field.{fieldOf, fieldAt}
 use Rattle.slots.specs.Fits.{maskBytes, fitsMask, fitsSlot}
 use Rattle.card.specs.declared.Card.{Card}
-use Rattle.card.specs.declared.Deed.{Deed}
-use Rattle.card.specs.declared.Effect.the-variants.{Leave}
-use Rattle.card.specs.declared.Reply.the-variants.{Blocks}
 use Rattle.card.specs.Inventory.{lengthPlace, maskLimit, maskOf, isInventory, inventoried, still}
-use Rattle.card.specs.Request.{deed, fault, reads}
 
 -- a request with sixteen slots and no AFI whose mask length is 0C, with two mask bytes and any check
 abbrev pub request : ℕ → ℕ → List ℕ → List ℕ
@@ -31,9 +27,6 @@ pub record Cards : Type 0 where
   -- "mask length 3C accepted with sixteen slots, 3D silent"
   pub length-3c : (f : Flags) → f .b6 ≡ false → leb 0x3c (maskLimit f) ≡ true
   pub length-3d : (c : Card) (f : Flags) (frame : List ℕ) → f .b6 ≡ false → getD frame (lengthPlace f) 0 ≡ 0x3d → inventoried c f frame ≡ still c
-  -- "32 blocks of 4: .. reading 1F with n=0 answers, n=1 is code 10"
-  pub last-block : (c : Card) (option : Bool) → c .blocks ≡ 32 → reads c option 0x1f 0 ≡ deed c Leave (Blocks 0x1f 1 option)
-  pub past-last : (c : Card) (option : Bool) → c .blocks ≡ 32 → reads c option 0x1f 1 ≡ fault c 0x10
 
 -- one test that fails makes the whole fail
 and-false : (a b c d : Bool) → (a && (b && (c && (false && d)))) ≡ false
@@ -53,7 +46,7 @@ too-long-silent c f frame e n =
     rw (n, past, and-false)
 
 pub cards : Cards
-unfolding flagsOf lengthPlace maskBytes maskLimit maskOf fieldAt fieldOf fitsMask fitsSlot reads
+unfolding flagsOf lengthPlace maskBytes maskLimit maskOf fieldAt fieldOf fitsMask fitsSlot
 cards =
     record {
       slot-5-only =
@@ -64,6 +57,4 @@ cards =
       padding-ignored = λ check. refl;
       length-3c = λ f e. rw e;
       length-3d = too-long-silent;
-      last-block = λ c option e. rw e;
-      past-last = λ c option e. rw e;
     }

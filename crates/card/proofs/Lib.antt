@@ -1,5 +1,3 @@
 pub mod Places
-pub mod Faults
-pub mod Rules
 pub mod Unique
 pub mod Examples

@@ -8,26 +8,11 @@ use Rattle.frames.specs.Flags.{flagsOf}
 use Rattle.frames.specs.Frame.{isSound}
 use Rattle.card.specs.declared.Card.{Card}
 use Rattle.card.specs.declared.Turn.{Turn}
-use Rattle.card.specs.declared.Effect.the-variants.{Leave}
-use Rattle.card.specs.declared.Deed.{Deed}
 use Rattle.card.specs.Record.{cleared}
 use Rattle.card.specs.Inventory.{still, inventoried}
-use Rattle.card.specs.Request.{deed, silent, requested}
 
--- an inventory's turn leaves memory and locks
-abbrev pub leaving : Turn → Deed
-leaving t = deed (t .card) Leave (t .reply)
-
--- "1. Under 4 bytes, over 64, or wrong check: silence. 2. .. b4 and b8 must be 0, else silence."
-unfoldable pub decided : Card → List ℕ → List ℕ → Deed
-decided card locks frame =
-    let c : Card = cleared card in
-    let f : Flags = flagsOf (getD frame 0 0) in
-    cond (isSound frame)
-    (cond (f .b4 || f .b8) (silent c) (cond (f .b3) (leaving (inventoried c f frame)) (requested c locks f frame)))
-    (silent c)
-
--- the same for a reader that sends inventory requests alone: what any other frame does beyond clearing is left out
+-- "1. Under 4 bytes, over 64, or wrong check: silence. 2. .. b4 and b8 must be 0, else silence.": for a reader that sends inventory
+-- requests alone, so that what any other frame does beyond clearing is left out
 unfoldable pub heardInventory : Card → List ℕ → Turn
 heardInventory card frame =
     let c : Card = cleared card in

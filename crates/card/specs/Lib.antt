@@ -1,5 +1,4 @@
 pub mod Record
 pub mod Inventory
 pub mod Mark
-pub mod Request
 pub mod Frame

@@ -1,9 +1,8 @@
-// The card's record and its rules: what a frame, a slot mark and power off make of a card. Memory, lock bytes and answer are the crate play's.
+// The card's record and what needs no memory: what an inventory request, a slot mark and power off make of a card.
 mod frame;
 mod inventory;
 mod mark;
 mod record;
-mod request;
 
 // Ready answers, Quiet is silent unless addressed, Selected answers to Select.
 pub enum Mode {
@@ -50,22 +49,8 @@ pub enum Reply {
     Information,
 }
 
-// What a frame does to memory and locks: nothing, into a block the data at a place of the frame, or a block locked.
-pub enum Effect {
-    Leave,
-    Write(u32, u32),
-    Lock(u32),
-}
-
 // What a frame or a mark makes of a record, and what is answered.
 pub struct Turn {
     pub card: Card,
-    pub reply: Reply,
-}
-
-// The same with what becomes of memory and locks.
-pub struct Deed {
-    pub card: Card,
-    pub effect: Effect,
     pub reply: Reply,
 }

@@ -1,6 +1,6 @@
 // The record: which ones are accepted, and each way in which it changes.
 ghost use mathlib.Core.Path.{_≡_};
-ghost use Rattle.card.specs.Record.{shapeFits, sequenceFits, heldFits, isAccepted, remade, cleared, inMode, inSequence, holding, withAfi, withDsfid, poweredOff, isQuiet, isSelected};
+ghost use Rattle.card.specs.Record.{shapeFits, sequenceFits, heldFits, isAccepted, remade, cleared, inMode, inSequence, holding, withAfi, withDsfid, poweredOff, isQuiet};
 use crate::Card;
 use crate::Held;
 use crate::Mode;
@@ -112,7 +112,8 @@ impl Card {
         }
     }
 
-    pub(crate) fn cleared(self) -> Card
+    // What any frame does first.
+    pub fn cleared(self) -> Card
         ensures { λ r. ⌜ r ≡ cleared self ⌝ }
     {
         let kept = self.mode;
@@ -129,7 +130,7 @@ impl Card {
         )
     }
 
-    pub(crate) fn in_mode(self, mode: Mode) -> Card
+    pub fn in_mode(self, mode: Mode) -> Card
         ensures { λ r. ⌜ r ≡ inMode mode self ⌝ }
     {
         let sequence = self.sequence;
@@ -161,7 +162,7 @@ impl Card {
         )
     }
 
-    pub(crate) fn holding(self, held: Held) -> Card
+    pub fn holding(self, held: Held) -> Card
         ensures { λ r. ⌜ r ≡ holding held self ⌝ }
     {
         let mode = self.mode;
@@ -177,7 +178,8 @@ impl Card {
         )
     }
 
-    pub(crate) fn with_afi(self, afi: u8, locked: bool) -> Card
+    // AFI and DSFID, each with its lock.
+    pub fn with_afi(self, afi: u8, locked: bool) -> Card
         ensures { λ r. ⌜ r ≡ withAfi afi locked self ⌝ }
     {
         let mode = self.mode;
@@ -194,7 +196,7 @@ impl Card {
         )
     }
 
-    pub(crate) fn with_dsfid(self, dsfid: u8, locked: bool) -> Card
+    pub fn with_dsfid(self, dsfid: u8, locked: bool) -> Card
         ensures { λ r. ⌜ r ≡ withDsfid dsfid locked self ⌝ }
     {
         let mode = self.mode;
@@ -226,15 +228,5 @@ pub(crate) fn is_quiet(mode: Mode) -> bool
         Mode::Ready => false,
         Mode::Quiet => true,
         Mode::Selected => false,
-    }
-}
-
-pub(crate) fn is_selected(mode: Mode) -> bool
-    ensures { λ r. ⌜ r ≡ isSelected mode ⌝ }
-{
-    match mode {
-        Mode::Ready => false,
-        Mode::Quiet => false,
-        Mode::Selected => true,
     }
 }

@@ -12,7 +12,7 @@ use Rattle.card.specs.declared.Card.{Card}
 use Rattle.walk.specs.declared.Walk.{Walk}
 use Rattle.walk.specs.Record.{maskLength}
 use Rattle.walk.specs.Hear.{judged}
-use Rattle.field.specs.Field.{Tag, answers, answering, kindOf, bytesOf}
+use Rattle.field.specs.Field.{Tag, answers, answering, arrives}
 use Rattle.field.specs.Demand.{AllObey}
 use Rattle.field.specs.Demand as demand
 use Rattle.field.proofs.Called.{called, slotOf}
@@ -34,7 +34,7 @@ uids (c ∷ cs) = c .uid ∷ uids cs
 -- ---- their UIDs
 
 -- a mask and the slot above it are a tail
-slot-tail : (uid level mask slot : ℕ) → mask < 2 ^ maskLength level → slot < 16
+pub slot-tail : (uid level mask slot : ℕ) → mask < 2 ^ maskLength level → slot < 16
     → fitsSlot uid (maskLength level) mask slot ≡ eqb (uid % 16 ^ suc level) (mask + slot * 16 ^ level)
 unfolding fitsSlot fitsMask maskLength
 slot-tail uid level mask slot h g = rw (digits-of-bits level) (sym (above-fits uid level mask slot (rw (digits-of-bits level) at h) g))
@@ -81,8 +81,8 @@ callers-fit family w (t ∷ ts) (demand.more o os) = go (calls family w (t .card
         more (and-eq-true-iff (answers family (t .card)) fits .0 e .1) (o .uid-fits) rest
     go false e rest = rest
 
-pub callers-judged : (w : Walk) (cs : List Card) → AllFit w cs → judged w (kindOf (messages cs)) (bytesOf (messages cs)) ≡ slotOf (uids cs)
-unfolding judged kindOf bytesOf messages slotOf uids
+pub callers-judged : (w : Walk) (cs : List Card) → AllFit w cs → judged w (arrives (messages cs) .kind) (arrives (messages cs) .bytes) ≡ slotOf (uids cs)
+unfolding judged arrives messages slotOf uids
 callers-judged w [] none = refl
 callers-judged w (c ∷ []) (more fits uid-fits none) = rw (message-clean w c uid-fits, fits, message-uid c uid-fits)
 callers-judged w (c ∷ d ∷ cs) fit = refl

@@ -27,5 +27,6 @@ pub mod RowAsked
 pub mod WalkServed
 pub mod PlayedSlot
 pub mod Stages
+pub mod AnyWalk
 pub mod Demand3
 pub mod Answering

@@ -10,7 +10,7 @@ use Rattle.walk.specs.declared.Slot.{Slot}
 use Rattle.walk.specs.Record.{maskLength, isAccepted, isRunning}
 use Rattle.walk.specs.Hear.{judged, walkAfter, listAfter}
 use Rattle.walk.specs.Ask.{sent, roomAfter}
-use Rattle.field.specs.Field.{Tag, answering, replies, kindOf, bytesOf}
+use Rattle.field.specs.Field.{Tag, answering, replies, arrives}
 use Rattle.field.specs.Played.{Play, slotPlayed}
 use Rattle.field.specs.Demand.{AllObey}
 use Rattle.field.specs.Demand as demand
@@ -31,7 +31,7 @@ pub record SlotPlayed (family : ℕ) (tags₀ : List Tag) (p q : Play) : Type 0 
 -- what arrives is judged to be what the UIDs bring
 slot-heard : (ts₀ ts : List Tag) (w : Walk) (room : List ℕ) → AllObey ts₀ → Fits w
     → Both (Hears (w .family) w (sent w) (roomAfter w (sent w) room)) ts₀ ts
-    → judged w (kindOf (replies (sent w) (roomAfter w (sent w) room) ts)) (bytesOf (replies (sent w) (roomAfter w (sent w) room) ts))
+    → judged w (arrives (replies (sent w) (roomAfter w (sent w) room) ts) .kind) (arrives (replies (sent w) (roomAfter w (sent w) room) ts) .bytes)
     ≡ slotOf (called (answering (w .family) ts₀) w)
 slot-heard ts₀ ts w room obey fits hears =
     rw (row-replies (w .family) w (sent w) (roomAfter w (sent w) room) ts₀ ts hears)
@@ -49,7 +49,7 @@ own-played tags₀ p obey accepted running places room before =
     let hears = row-hears w tags₀ (p .tags) (p .room) obey fits running before in
     let rs : List (List ℕ) = replies (sent w) (roomAfter w (sent w) (p .room)) (p .tags) in
     let heard = slot-heard tags₀ (p .tags) w (p .room) obey fits hears in
-    rw (walk-asked w (p .room) accepted room, walk-heard w (kindOf rs) (bytesOf rs) (p .list) accepted running places)
+    rw (walk-asked w (p .room) accepted room, walk-heard w (arrives rs .kind) (arrives rs .bytes) (p .list) accepted running places)
     (record {
       walk = ap (walkAfter w) heard;
       list = ap (λ (slot : Slot). listAfter w slot (p .list)) heard;

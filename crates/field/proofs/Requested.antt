@@ -15,12 +15,12 @@ use Rattle.frames.proofs.Fields.{length-field-bytes}
 use Rattle.frames.proofs.Sound.{sound-of-sealed}
 use Rattle.card.specs.declared.Card.{Card}
 use Rattle.card.specs.declared.Sequence.the-variants.{Running}
-use Rattle.card.specs.declared.Effect.the-variants.{Leave}
+use Rattle.requests.specs.declared.Effect.the-variants.{Leave}
 use Rattle.card.specs.Record.{isQuiet, remade, cleared, inSequence}
 use Rattle.card.specs.Inventory.{fitsFamily, present, inventoried}
 use Rattle.slots.specs.Fits.{maskBytes, fitsMask, fitsSlot}
-use Rattle.card.specs.Request.{deed}
-use Rattle.card.specs.Frame.{leaving, decided}
+use Rattle.requests.specs.Request.{deed}
+use Rattle.requests.specs.Frame.{leaving, decided}
 use Rattle.walk.specs.declared.Walk.{Walk}
 use Rattle.walk.specs.Record.{maskLength, hasFamily}
 use Rattle.walk.specs.Ask.{requestHead, requestBody, request}

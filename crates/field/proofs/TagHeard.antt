@@ -8,12 +8,12 @@ use lib.ListN.{length}
 use Rattle.lent.specs.Lent.{over}
 use Rattle.lent.proofs.Over.{take-over}
 use Rattle.card.specs.declared.Card.{Card}
-use Rattle.card.specs.declared.Deed.{Deed}
+use Rattle.requests.specs.declared.Deed.{Deed}
 use Rattle.card.specs.declared.Turn.{Turn}
 use Rattle.card.specs.Record.{cleared}
 use Rattle.card.specs.Inventory.{present}
 use Rattle.card.specs.Mark.{marked}
-use Rattle.card.specs.Frame.{decided}
+use Rattle.requests.specs.Frame.{decided}
 use Rattle.play.specs.Refusal.{refusal}
 use Rattle.play.specs.Effects.{memoryAfter, locksAfter}
 use Rattle.play.specs.Events.{Outcome, replied, carriedOut, frameEvent, markEvent}

@@ -12,7 +12,7 @@ use Rattle.card.specs.Inventory.{fitsFamily}
 use Rattle.play.specs.Refusal.{refusal}
 use Rattle.play.specs.Events.{Outcome, replied, frameEvent, markEvent}
 use Rattle.walk.specs.declared.Kind.{Kind}
-use Rattle.walk.specs.declared.Kind.the-variants as kind
+use Rattle.walk.specs.declared.Kind.the-variants as kinds
 use Rattle.walk.specs.declared.Send.{Send}
 use Rattle.walk.specs.declared.Send.the-variants.{Nothing, Mark, Request}
 
@@ -59,13 +59,13 @@ replies send sent (t ∷ ts) =
     let o : Outcome = reached send sent t in
     cond (eqb (o .told) 0) (replies send sent ts) (take (o .told) (o .answer) ∷ replies send sent ts)
 
--- what arrives
-unfoldable pub kindOf : List (List ℕ) → Kind
-kindOf [] = kind.Silence
-kindOf (r ∷ []) = kind.Bytes
-kindOf (r ∷ s ∷ rs) = kind.Clash
+-- what arrives in a slot: a kind, and bytes that are looked at where it is the third
+pub record Arrival : Type 0 where
+  pub kind : Kind
+  pub bytes : List ℕ
 
-unfoldable pub bytesOf : List (List ℕ) → List ℕ
-bytesOf [] = []
-bytesOf (r ∷ []) = r
-bytesOf (r ∷ s ∷ rs) = []
+-- "One reply arrives whole; two or more in a slot arrive as a clash."
+unfoldable pub arrives : List (List ℕ) → Arrival
+arrives [] = record { kind = kinds.Silence; bytes = [] }
+arrives (r ∷ []) = record { kind = kinds.Bytes; bytes = r }
+arrives (r ∷ s ∷ rs) = record { kind = kinds.Clash; bytes = [] }

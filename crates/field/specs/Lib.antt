@@ -1,3 +1,4 @@
 pub mod Field
 pub mod Played
+pub mod Replies
 pub mod Demand

@@ -6,7 +6,7 @@ use Rattle.walk.specs.declared.Kind.{Kind}
 use Rattle.walk.specs.Record.{started}
 use Rattle.walk.specs.Hear.{Hearing, hearing}
 use Rattle.walk.specs.Ask.{Asking, asking}
-use Rattle.field.specs.Field.{Tag, tagsAfter, replies, kindOf, bytesOf}
+use Rattle.field.specs.Field.{Tag, tagsAfter, replies, Arrival, arrives}
 
 -- all that stands on the desk: the walk, its list, the room for what it sends, and the cards
 pub record Play : Type 0 where
@@ -19,8 +19,8 @@ pub record Play : Type 0 where
 unfoldable pub slotPlayed : Play → Play
 slotPlayed p =
     let a : Asking = asking (p .walk) (p .room) in
-    let rs : List (List ℕ) = replies (a .send) (a .room) (p .tags) in
-    let h : Hearing = hearing (p .walk) (kindOf rs) (bytesOf rs) (p .list) in
+    let heard : Arrival = arrives (replies (a .send) (a .room) (p .tags)) in
+    let h : Hearing = hearing (p .walk) (heard .kind) (heard .bytes) (p .list) in
     record { walk = h .walk; list = h .list; room = a .room; tags = tagsAfter (a .send) (a .room) (p .tags) }
 
 unfoldable pub playedFor : ℕ → Play → Play

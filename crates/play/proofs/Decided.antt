@@ -14,10 +14,10 @@ use Rattle.card.specs.declared.Card.{Card}
 use Rattle.card.specs.declared.Mode.{Mode}
 use Rattle.card.specs.declared.Mode.the-variants.{Ready, Quiet, Selected}
 use Rattle.card.specs.declared.Reply.the-variants.{Done, Information}
-use Rattle.card.specs.declared.Effect.the-variants.{Leave}
+use Rattle.requests.specs.declared.Effect.the-variants.{Leave}
 use Rattle.card.specs.Record.{inMode, withAfi, withDsfid, isQuiet, isSelected}
-use Rattle.card.specs.Request.{deed, silent, writes-afi, writes-dsfid, locks-afi, locks-dsfid, commanded}
-use Rattle.card.specs.Request.{isListed, bodyAsked, refusesOption, holdsAnswer, bodyLength, judged, quieted, sorted, passedBy, addressed, unaddressed, requested}
+use Rattle.requests.specs.Request.{deed, silent, writes-afi, writes-dsfid, locks-afi, locks-dsfid, commanded}
+use Rattle.requests.specs.Request.{isListed, bodyAsked, refusesOption, holdsAnswer, bodyLength, judged, quieted, sorted, passedBy, addressed, unaddressed, requested}
 use Rattle.play.specs.Fits.{effectFits, replyFits}
 use Rattle.play.proofs.Deeds.{Shaped, DeedFits, by-test, mode-shape, afi-shape, dsfid-shape, silent-fits, fault-fits, done-fits, failed-fits}
 use Rattle.play.proofs.Deeds.{reads-fits, tells-fits, writes-fits, locks-fits, leave-fits}

@@ -15,11 +15,11 @@ use Rattle.card.specs.declared.Held.{Held}
 use Rattle.card.specs.declared.Held.the-variants.{Success, Code}
 use Rattle.card.specs.declared.Reply.{Reply}
 use Rattle.card.specs.declared.Reply.the-variants.{Blocks, Status}
-use Rattle.card.specs.declared.Effect.{Effect}
-use Rattle.card.specs.declared.Effect.the-variants.{Leave, Write, Lock}
-use Rattle.card.specs.declared.Deed.{Deed}
+use Rattle.requests.specs.declared.Effect.{Effect}
+use Rattle.requests.specs.declared.Effect.the-variants.{Leave, Write, Lock}
+use Rattle.requests.specs.declared.Deed.{Deed}
 use Rattle.card.specs.Record.{remade, cleared, inMode, inSequence, holding, withAfi, withDsfid}
-use Rattle.card.specs.Request.{deed, silent, fault, done, failed, isLocked, reads, writes, locks-block, tells-locks}
+use Rattle.requests.specs.Request.{deed, silent, fault, done, failed, isLocked, reads, writes, locks-block, tells-locks}
 use Rattle.play.specs.Fits.{effectFits, replyFits}
 
 -- a card of the same shape as the one at the start

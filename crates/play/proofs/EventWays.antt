@@ -15,7 +15,7 @@ use Rattle.crc.specs.Check.{checkBytes, sealed}
 use Rattle.card.specs.declared.Card.{Card}
 use Rattle.card.specs.declared.Reply.{Reply}
 use Rattle.card.specs.declared.Reply.the-variants.{Silence}
-use Rattle.card.specs.declared.Deed.{Deed}
+use Rattle.requests.specs.declared.Deed.{Deed}
 use Rattle.card.specs.declared.Turn.{Turn}
 use Rattle.card.specs.Record.{poweredOff}
 use Rattle.card.specs.Mark.{marked}

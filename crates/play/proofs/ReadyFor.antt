@@ -9,14 +9,14 @@ use borrow.Author.Tests.{eqb-true}
 use lib.Dec.{eqb}
 use lib.ListN.{length}
 use Rattle.card.specs.declared.Card.{Card}
-use Rattle.card.specs.declared.Deed.{Deed}
+use Rattle.requests.specs.declared.Deed.{Deed}
 use Rattle.card.specs.declared.Turn.{Turn}
-use Rattle.card.specs.declared.Effect.{Effect}
-use Rattle.card.specs.declared.Effect.the-variants.{Leave, Write, Lock}
+use Rattle.requests.specs.declared.Effect.{Effect}
+use Rattle.requests.specs.declared.Effect.the-variants.{Leave, Write, Lock}
 use Rattle.card.specs.declared.Reply.{Reply}
 use Rattle.card.specs.declared.Reply.the-variants.{Silence, Error, Done, Present, Blocks, Status, Information}
 use Rattle.card.specs.Record.{shapeFits, isAccepted}
-use Rattle.card.specs.Frame.{decided}
+use Rattle.requests.specs.Frame.{decided}
 use Rattle.card.specs.Mark.{marked}
 use Rattle.play.specs.Refusal.{lengthsFit, locksFit, roomFits, refusal}
 use Rattle.play.specs.Fits.{effectFits, replyFits}

@@ -20,8 +20,8 @@ use Rattle.card.specs.declared.Turn.{Turn}
 use Rattle.card.specs.Record.{cleared, inSequence, holding}
 use Rattle.card.specs.Inventory.{turn, still, present, joins, inventoried, isInventory, takesPart, lengthPlace}
 use Rattle.card.specs.Mark.{marked, released, moved}
-use Rattle.card.specs.Frame.{decided, leaving}
-use Rattle.card.specs.Request.{requested, silent}
+use Rattle.requests.specs.Frame.{decided, leaving}
+use Rattle.requests.specs.Request.{requested, silent}
 use Rattle.play.specs.Fits.{effectFits, replyFits}
 use Rattle.play.proofs.Deeds.{Shaped, DeedFits, by-test, cleared-shape, sequence-shape, holding-shape, silent-fits}
 use Rattle.play.proofs.Decided.{requested-fits}

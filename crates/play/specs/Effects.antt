@@ -4,8 +4,8 @@ use mathlib.Core.List.{List}
 use lib.ListN.{take, drop, set}
 use Rattle.lent.specs.Lent.{placed}
 use Rattle.card.specs.declared.Card.{Card}
-use Rattle.card.specs.declared.Effect.{Effect}
-use Rattle.card.specs.declared.Effect.the-variants.{Leave, Write, Lock}
+use Rattle.requests.specs.declared.Effect.{Effect}
+use Rattle.requests.specs.declared.Effect.the-variants.{Leave, Write, Lock}
 
 -- 21: the data stand in the frame from a place on, as many bytes as a block has
 unfoldable pub memoryAfter : Card → List ℕ → List ℕ → Effect → List ℕ

@@ -5,8 +5,8 @@ use mathlib.Core.List.{List}
 use lib.Dec.{leb, ltb}
 use lib.ListN.{length}
 use Rattle.card.specs.declared.Card.{Card}
-use Rattle.card.specs.declared.Effect.{Effect}
-use Rattle.card.specs.declared.Effect.the-variants.{Leave, Write, Lock}
+use Rattle.requests.specs.declared.Effect.{Effect}
+use Rattle.requests.specs.declared.Effect.the-variants.{Leave, Write, Lock}
 use Rattle.card.specs.declared.Reply.{Reply}
 use Rattle.card.specs.declared.Reply.the-variants.{Silence, Error, Done, Present, Blocks, Status, Information}
 

@@ -7,7 +7,7 @@ ghost use Rattle.lent.specs.Lent.{placed};
 ghost use Rattle.play.specs.Fits.{effectFits, lockFits};
 ghost use Rattle.play.specs.Effects.{memoryAfter, locksAfter};
 use card::Card;
-use card::Effect;
+use requests::Effect;
 
 // Copies n bytes from a place of one buffer to a place of another.
 pub(crate) fn copy(from: &[u8], at: usize, n: usize, to: &mut [u8], place: usize)

@@ -58,7 +58,7 @@ pub fn frame(
             length: 0,
         };
     }
-    let deed = card.decide(locks, frame);
+    let deed = requests::decide(card, locks, frame);
     let next = deed.card;
     let effect = deed.effect;
     let reply = deed.reply;

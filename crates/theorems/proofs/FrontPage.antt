@@ -30,13 +30,19 @@ use Rattle.tracks.proofs.Unique.{code-unique, decode-unique}
 use Rattle.tracks.proofs.Examples.{Tracks, tracks}
 use Rattle.card.specs.declared.Card.{Card}
 use Rattle.card.specs.declared.Turn.{Turn}
-use Rattle.card.specs.declared.Deed.{Deed}
-use Rattle.card.specs.Record.{cleared, isAccepted, poweredOff}
+use Rattle.requests.specs.declared.Deed.{Deed}
+use Rattle.card.specs.declared.Mode.{Mode}
+use Rattle.card.specs.declared.Held.{Held}
+use Rattle.card.specs.Record.{isAccepted, cleared, inMode, holding, withAfi, withDsfid, poweredOff}
 use Rattle.card.specs.Mark.{marked}
-use Rattle.card.specs.Request.{silent}
-use Rattle.card.specs.Frame.{leaving, decided, heardInventory}
-use Rattle.card.proofs.Rules.{unsound-silent, inventory-frame}
-use Rattle.card.proofs.Unique.{is-accepted-unique, power-off-unique, hear-mark-unique, hear-inventory-unique, decide-unique}
+use Rattle.requests.specs.Request.{silent}
+use Rattle.card.specs.Frame.{heardInventory}
+use Rattle.requests.specs.Frame.{leaving, decided}
+use Rattle.requests.proofs.Rules.{unsound-silent, inventory-frame}
+use Rattle.card.proofs.Unique.{is-accepted-unique, cleared-unique, in-mode-unique, holding-unique, with-afi-unique, with-dsfid-unique, power-off-unique}
+use Rattle.card.proofs.Unique.{hear-mark-unique, hear-inventory-unique}
+use Rattle.requests.proofs.Unique.{decide-unique}
+use Rattle.requests.proofs.Examples.{BlockReads, block-reads}
 use Rattle.card.proofs.Examples.{Cards, cards}
 use Rattle.play.specs.declared.Served.{Served}
 use Rattle.play.specs.Events.{Outcome, Leaves}
@@ -44,6 +50,22 @@ use Rattle.play.proofs.Deeds.{DeedFits}
 use Rattle.play.proofs.Turns.{decided-fits}
 use Rattle.play.proofs.Unique.{leaves-unique}
 use Rattle.play.proofs.Examples.{Information, information-shown}
+use Rattle.walk.specs.declared.Walk.{Walk}
+use Rattle.walk.specs.declared.Kind.{Kind}
+use Rattle.walk.specs.declared.Slot.the-variants.{Clean}
+use Rattle.walk.specs.declared.Heard.{Heard}
+use Rattle.walk.specs.declared.Asked.{Asked}
+use Rattle.walk.specs.Record as walk-record
+use Rattle.walk.specs.Record.{maskLength, started}
+use Rattle.walk.specs.Hear.{judged, Hearing, Hears}
+use Rattle.walk.specs.Ask.{Asking, Asks}
+use Rattle.walk.proofs.Unique as walk-unique
+use Rattle.walk.proofs.Unique.{start-unique, hear-unique, ask-unique}
+use Rattle.walk.proofs.Examples.{Walks, walks}
+use Rattle.field.specs.Replies.{anyReplies}
+use Rattle.field.specs.Demand.{demand3}
+use Rattle.field.proofs.AnyWalk.{judged-fits, walk-of-any-replies}
+use Rattle.field.proofs.Demand3.{walk-of-a-field}
 
 -- ---- The check
 
@@ -90,6 +112,29 @@ an-inventory-frame = inventory-frame
 -- Whatever frame arrives, what is decided stays within the card's blocks and within the frame, and the shape stays.
 within-the-card : (card : Card) (locks frame : List ℕ) → DeedFits card frame (decided card locks frame)
 within-the-card = decided-fits
+
+-- ---- The walk
+
+-- Whatever a walk hears from its start on, true or false: its record is always one that number 10 accepts, no UID is listed twice, and it has
+-- ended after 16 × 481 slots.
+walking-over-any-replies : anyReplies
+walking-over-any-replies = walk-of-any-replies
+
+-- A UID that is taken for clean fits the mask and the slot that it was heard in.
+clean-fits : (w : Walk) (k : Kind) (bytes : List ℕ) (u : ℕ) → judged w k bytes ≡ Clean u
+    → fitsSlot u (maskLength (w .level)) (w .mask) (w .slot) ≡ true
+clean-fits = judged-fits
+
+-- ---- Demand 3
+
+-- Any cards whose records, memory, lock bytes and room are not refused, in any mode and with anything held or running; any family; a list of 64
+-- places or more. Each thing that a fresh walk sends reaches every card, one reply arrives whole, two or more arrive as a clash. Then the walk
+-- ends within 16 × 481 slots; it ends complete exactly if at most 64 cards answer its family and no two of these share a UID; the list then holds
+-- each of them once; the round count is one more than the number of tails of 1 to 15 digits that two or more of them share; otherwise it ends
+-- twins, or, above 64, twins or full; and every card keeps all but its sequence and its held answer.
+-- The statement is crates/field/specs/Demand.antt; the field stands in Field.antt and Played.antt beside it, the tails in crates/tails/specs.
+demand-three : demand3
+demand-three = walk-of-a-field
 
 -- ---- Every promise allows one result
 
@@ -148,6 +193,21 @@ decode-once = decode-unique
 is-accepted-once : (c : Card) (r s : Bool) → r ≡ isAccepted c → s ≡ isAccepted c → r ≡ s
 is-accepted-once = is-accepted-unique
 
+cleared-once : (c r s : Card) → r ≡ cleared c → s ≡ cleared c → r ≡ s
+cleared-once = cleared-unique
+
+in-mode-once : (c : Card) (mode : Mode) (r s : Card) → r ≡ inMode mode c → s ≡ inMode mode c → r ≡ s
+in-mode-once = in-mode-unique
+
+holding-once : (c : Card) (held : Held) (r s : Card) → r ≡ holding held c → s ≡ holding held c → r ≡ s
+holding-once = holding-unique
+
+with-afi-once : (c : Card) (afi : ℕ) (locked : Bool) (r s : Card) → r ≡ withAfi afi locked c → s ≡ withAfi afi locked c → r ≡ s
+with-afi-once = with-afi-unique
+
+with-dsfid-once : (c : Card) (dsfid : ℕ) (locked : Bool) (r s : Card) → r ≡ withDsfid dsfid locked c → s ≡ withDsfid dsfid locked c → r ≡ s
+with-dsfid-once = with-dsfid-unique
+
 power-off-once : (c r s : Card) → r ≡ poweredOff c → s ≡ poweredOff c → r ≡ s
 power-off-once = power-off-unique
 
@@ -165,13 +225,35 @@ event-once : (o : Outcome) (r s : Served) (memory memory′ locks locks′ answe
     → Leaves o r memory locks answer → Leaves o s memory′ locks′ answer′ → (r ≡ s) × (memory ≡ memory′) × (locks ≡ locks′) × (answer ≡ answer′)
 event-once = leaves-unique
 
+walk-start-once : (family : ℕ) (r s : Walk) → r ≡ started family → s ≡ started family → r ≡ s
+walk-start-once = start-unique
+
+walk-is-accepted-once : (w : Walk) (r s : Bool) → r ≡ walk-record.isAccepted w → s ≡ walk-record.isAccepted w → r ≡ s
+walk-is-accepted-once = walk-unique.is-accepted-unique
+
+hear-once : (h : Hearing) (r s : Heard) (list list′ : List ℕ) → Hears h r list → Hears h s list′ → (r ≡ s) × (list ≡ list′)
+hear-once = hear-unique
+
+ask-once : (w : Walk) (a : Asking) (r s : Asked) (room room′ : List ℕ) → Asks w a r room → Asks w a s room′ → (r ≡ s) × (room ≡ room′)
+ask-once = ask-unique
+
 -- ---- The examples of the rules page, under a single statement
 
 record Examples : Type 0 where
   of-checks : Checks
   of-tracks : Tracks
   of-cards : Cards
+  of-reads : BlockReads
   of-information : Information
+  of-walks : Walks
 
 examples : Examples
-examples = record { of-checks = checks; of-tracks = tracks; of-cards = cards; of-information = information-shown }
+examples =
+    record {
+      of-checks = checks;
+      of-tracks = tracks;
+      of-cards = cards;
+      of-reads = block-reads;
+      of-information = information-shown;
+      of-walks = walks;
+    }

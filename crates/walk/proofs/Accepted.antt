@@ -2,18 +2,20 @@
 -- By what each change does to the eight facts of an accepted record. Assumes nothing.
 use mathlib.Core.Path.{_≡_, refl}
 use mathlib.Core.Bool.{Bool, true, false, cond}
+use mathlib.Core.List.{List}
 use Prim.Native.Nat.{ℕ, zero, suc, _+_, _<_}
 use native.Mathlib.Omega.{arith}
 use borrow.Author.Tests.{ltb-true, eqb-true}
 use lib.Dec.{ltb, eqb}
-use lib.ListN.{getD}
+use lib.ListN.{length, getD}
 use Rattle.walk.specs.declared.Walk.{Walk}
+use Rattle.walk.specs.declared.Kind.{Kind}
 use Rattle.walk.specs.declared.Slot.{Slot}
 use Rattle.walk.specs.declared.Slot.the-variants.{Silent, Clashed, Clean}
 use Rattle.walk.specs.Marks.{levels, deepestOf, deepest, withMark, withoutMark, lowest}
 use Rattle.walk.specs.Record.{places, mostRounds, maskLength, marksFit, isAccepted}
 use Rattle.walk.specs.Record.{remade, ended, counted, marked, atNextSlot, openedAt, opened, noMarks, started}
-use Rattle.walk.specs.Hear.{endsAtOnce, noted, turned, passed, walkAfter}
+use Rattle.walk.specs.Hear.{judged, endsAtOnce, noted, turned, passed, walkAfter, refusal, Hearing, hearing}
 use Rattle.walk.proofs.Levels.{lowest-is-slot, deepest-set}
 use Rattle.walk.proofs.Limits.{Accepted, accepted-of-is-accepted, is-accepted-of-accepted, opened-mask-fits}
 use Rattle.walk.proofs.HearWays.{clash-goes-on, clean-goes-on}
@@ -134,3 +136,13 @@ after-accepted w slot h = is-accepted-of-accepted (walkAfter w slot) (after-fact
 -- with any ending
 pub ended-accepted : (w : Walk) (ending : ℕ) → isAccepted w ≡ true → isAccepted (ended ending w) ≡ true
 ended-accepted w ending h = is-accepted-of-accepted (ended ending w) (ended-facts w (accepted-of-is-accepted w h) ending)
+
+-- by a test of a call, either way
+heard-either : (b : Bool) (x y : Hearing) → isAccepted (x .walk) ≡ true → isAccepted (y .walk) ≡ true → isAccepted (cond b x y .walk) ≡ true
+heard-either true x y p q = p
+heard-either false x y p q = q
+
+-- after a call, refused or not
+pub heard-accepted : (w : Walk) (kind : Kind) (bytes list : List ℕ) → isAccepted w ≡ true → isAccepted (hearing w kind bytes list .walk) ≡ true
+unfolding hearing
+heard-accepted w kind bytes list h = heard-either (eqb (refusal w (length list)) 0) _ _ (after-accepted w (judged w kind bytes) h) h

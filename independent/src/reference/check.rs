@@ -9,11 +9,11 @@ const DEGREE: usize = 16;
 /// What each bit of a byte is worth, least significant first.
 const WORTH: [u8; 8] = [1, 2, 4, 8, 16, 32, 64, 128];
 
-fn bits_of(byte: u8) -> impl Iterator<Item = bool> {
+pub fn bits_of(byte: u8) -> impl Iterator<Item = bool> {
     WORTH.into_iter().map(move |worth| byte / worth % 2 == 1)
 }
 
-fn byte_of(bits: &[bool]) -> u8 {
+pub fn byte_of(bits: &[bool]) -> u8 {
     WORTH.iter().zip(bits).filter(|(_, &bit)| bit).map(|(worth, _)| worth).sum()
 }
 

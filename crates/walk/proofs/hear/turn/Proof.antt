@@ -1,6 +1,7 @@
 -- `walk::hear::turn` meets its contract: complete, opened or overrun. Assumes nothing.
 use borrow.Author.Needs.{needs}
 use mathlib.Core.Path.{sym, _∙_}
+use native.Mathlib.Omega.{arith}
 use Rattle.walk.proofs.HearWays.{turned-complete, turned-opened, turned-overrun}
 use Rattle.walk.proofs.hear.turn.Statement.{statement}
 use Rattle.walk.proofs.hear.turn.Tie as tie
@@ -9,7 +10,11 @@ ended-requires : tie.Need-ended-requires
 ended-requires c κs = search needs
 
 returns : tie.Need-returns
-returns c = c .ended .ensures ∙ sym (turned-complete _ _ (c .before .if1 .taken))
+returns c =
+    let ended = c .ended in
+    let args = c .before .before .args in
+    let first = c .before .if1 in
+    ended .ensures ∙ sym (turned-complete (args .walk) (args .n) (omega (arith, first .taken)))
 
 sub-opened : tie.Need-sub-opened
 sub-opened c = search needs

@@ -1,0 +1,81 @@
+-- The answer's length is at most its room, for each of the three events. Refused, it is 0; served, by what the refusals rule out.
+-- Assumes nothing.
+use mathlib.Core.Path.{_≡_, refl}
+use mathlib.Core.Bool.{Bool, true, false, cond}
+use mathlib.Core.List.{List}
+use Prim.Native.Nat.{ℕ, _+_, _≤_}
+use native.Mathlib.Omega.{arith}
+use borrow.Author.Tests.{eqb-true}
+use lib.Dec.{eqb}
+use lib.ListN.{length}
+use Rattle.card.specs.declared.Card.{Card}
+use Rattle.card.specs.declared.Reply.{Reply}
+use Rattle.requests.specs.Frame.{decided}
+use Rattle.card.specs.Mark.{marked}
+use Rattle.card.specs.Record.{poweredOff}
+use Rattle.card.specs.declared.Reply.the-variants.{Silence}
+use Rattle.play.specs.Refusal.{refusal, roomFits}
+use Rattle.play.specs.Fits.{replyFits}
+use Rattle.play.specs.Answer.{replyBytes}
+use Rattle.play.specs.Events.{lengthTold, Outcome, replied, unserved, event, carriedOut, frameEvent, markEvent, offEvent}
+use Rattle.play.proofs.Room.{reply-room, silence-length}
+use Rattle.play.proofs.ReadyFor.{deed-ready, mark-ready}
+use Rattle.play.proofs.EventWays.{told-silence}
+
+-- an event, where what is served fits
+event-told : (c : Card) (memory locks found : List ℕ) (o : Outcome)
+    → (refusal c (length memory) locks (length found) ≡ 0 → o .told ≤ length found) → event c memory locks found o .told ≤ length found
+unfolding event unserved
+event-told c memory locks found o h = go (eqb n 0) (λ e. h (eqb-true n 0 e))
+  where
+    n : ℕ
+    n = refusal c (length memory) locks (length found)
+
+    go : (b : Bool) → (b ≡ true → o .told ≤ length found) → cond b o (unserved c memory locks found n) .told ≤ length found
+    go true k = k refl
+    go false k = omega arith
+
+told-most : (body : List ℕ) (room : ℕ) → length body + 2 ≤ room → lengthTold body ≤ room
+unfolding lengthTold
+told-most body room h = go (eqb (length body) 0)
+  where
+    go : (b : Bool) → cond b 0 (length body + 2) ≤ room
+    go true = omega arith
+    go false = h
+
+reply-told : (c : Card) (memory locks found : List ℕ) (reply : Reply) → replyFits c reply ≡ true → roomFits c (length found) ≡ true
+    → replied c memory locks reply found .told ≤ length found
+unfolding replied
+reply-told c memory locks found reply p q =
+    told-most (replyBytes c memory locks reply) (length found) (reply-room c memory locks reply (length found) p q)
+
+frame-fits : (c : Card) (frame memory locks found : List ℕ) → frameEvent c frame memory locks found .told ≤ length found
+unfolding frameEvent carriedOut
+frame-fits c frame memory locks found =
+    event-told c memory locks found (carriedOut (decided c locks frame) frame memory locks found) (λ e.
+    let ready = deed-ready c frame (length memory) locks (length found) (refusal c (length memory) locks (length found)) (decided c locks frame) refl e refl in
+    reply-told (decided c locks frame .card) _ _ found (decided c locks frame .reply) (ready .reply) (ready .ready .fits))
+
+mark-fits : (c : Card) (memory locks found : List ℕ) → markEvent c memory locks found .told ≤ length found
+unfolding markEvent
+mark-fits c memory locks found =
+    event-told c memory locks found (replied (marked c .card) memory locks (marked c .reply) found) (λ e.
+    let ready = mark-ready c (length memory) locks (length found) (refusal c (length memory) locks (length found)) (marked c) refl e refl in
+    reply-told (marked c .card) memory locks found (marked c .reply) (ready .reply) (ready .ready .fits))
+
+off-fits : (c : Card) (memory locks found : List ℕ) → offEvent c memory locks found .told ≤ length found
+unfolding offEvent replied
+off-fits c memory locks found =
+    event-told c memory locks found (replied (poweredOff c) memory locks Silence found) (λ e.
+    omega (arith, told-silence (replyBytes (poweredOff c) memory locks Silence) found (silence-length (poweredOff c) memory locks)))
+
+-- the same of a length that is told
+
+pub frame-told : (c : Card) (frame memory locks found : List ℕ) {n : ℕ} → n ≡ frameEvent c frame memory locks found .told → n ≤ length found
+frame-told c frame memory locks found e = omega (arith, frame-fits c frame memory locks found)
+
+pub mark-told : (c : Card) (memory locks found : List ℕ) {n : ℕ} → n ≡ markEvent c memory locks found .told → n ≤ length found
+mark-told c memory locks found e = omega (arith, mark-fits c memory locks found)
+
+pub off-told : (c : Card) (memory locks found : List ℕ) {n : ℕ} → n ≡ offEvent c memory locks found .told → n ≤ length found
+off-told c memory locks found e = omega (arith, off-fits c memory locks found)

@@ -1,0 +1,5 @@
+pub mod Faults
+pub mod Modes
+pub mod Rules
+pub mod Unique
+pub mod Examples
