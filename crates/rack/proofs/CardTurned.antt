@@ -10,13 +10,13 @@ use Rattle.lent.proofs.Over.{take-over}
 use Rattle.crc.specs.Check.{sealed}
 use Rattle.frames.specs.Flags.{flagsOf}
 use Rattle.card.specs.declared.Card.{Card}
-use Rattle.card.specs.declared.Deed.{Deed}
+use Rattle.requests.specs.declared.Deed.{Deed}
 use Rattle.card.specs.declared.Turn.{Turn}
 use Rattle.card.specs.Record.{cleared}
 use Rattle.card.specs.Inventory.{turn, present}
 use Rattle.card.specs.Mark.{marked}
 use Rattle.card.specs.Frame.{heardInventory}
-use Rattle.card.proofs.Rules.{inventory-frame}
+use Rattle.requests.proofs.Rules.{inventory-frame}
 use Rattle.walk.specs.declared.Walk.{Walk}
 use Rattle.walk.specs.Record.{hasFamily, isAccepted, isRunning}
 use Rattle.walk.specs.Ask.{Asking, requestHead, requestBody, request, sent, roomAfter}

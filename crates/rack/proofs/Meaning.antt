@@ -6,8 +6,8 @@ use native.Mathlib.Omega.{arith}
 use mathlib.Core.List.{List, [], _∷_}
 use lib.ListN.{getD}
 use Rattle.card.specs.declared.Card.{Card}
-use Rattle.card.specs.Record.{shapeFits, sequenceFits, heldFits, isAccepted, isQuiet}
-use Rattle.field.specs.Field.{Tag, Obeys, answers, answering}
+use Rattle.card.specs.Record.{shapeFits, sequenceFits, heldFits, isAccepted}
+use Rattle.field.specs.Field.{Tag, Obeys, listens, familyFits, answers, answering}
 use Rattle.field.specs.Played.{Play, fresh}
 use Rattle.field.specs.Played as field
 use Rattle.field.specs.Demand.{listed, AllObey, none, more, cards, Demand3, demand3}
@@ -50,7 +50,7 @@ tags-obey (u ∷ us) h = more (tag-obeys u (h 0)) (tags-obey us (λ i. h (suc i)
 
 -- "cards Ready, no family": every card answers
 tags-answer : (us : List ℕ) → answering 256 (tagsOf us) ≡ us
-unfolding tagsOf tagOf cardOf answering answers isQuiet
+unfolding tagsOf tagOf cardOf answering answers listens familyFits
 tags-answer [] = refl
 tags-answer (u ∷ us) = ap (λ (vs : List ℕ). u ∷ vs) (tags-answer us)
 

@@ -14,7 +14,7 @@ use Rattle.walk.specs.declared.Walk.{Walk}
 use Rattle.walk.specs.declared.Kind.the-variants as kind
 use Rattle.walk.specs.Record.{maskLength, isAccepted, isRunning}
 use Rattle.walk.specs.Hear.{judged}
-use Rattle.field.specs.Field.{Tag, answers, answering, kindOf, bytesOf}
+use Rattle.field.specs.Field.{Tag, answers, answering, arrives}
 use Rattle.field.specs.Demand.{AllObey, cardLeft, cardsLeft, cards}
 use Rattle.field.proofs.Called.{called, slotOf}
 use Rattle.field.proofs.InTime.{inStep, calls, Both, none, more, Before}
@@ -104,7 +104,7 @@ single-bytes c = sym (message-bytes c)
 
 air-judged : (w : Walk) (cs : List Card) → AllFit w cs
     → judged w (airKind (airOf stillAir cs)) (airBytes (airOf stillAir cs)) ≡ slotOf (uids cs)
-unfolding airOf airWith stillAir crowded airKind judged kindOf bytesOf messages slotOf uids
+unfolding airOf airWith stillAir crowded airKind judged arrives messages slotOf uids
 air-judged w [] fit = refl
 air-judged w (c ∷ []) fit = ap (judged w kind.Bytes) (single-bytes c) ∙ callers-judged w (c ∷ []) fit
 air-judged w (c ∷ d ∷ cs) fit =
