@@ -25,7 +25,7 @@ use Rattle.field.proofs.Stages.{Stage, hears, rests, stage-fresh, stage
 
 -- ---- the UIDs of cards that obey have sixteen digits
 
-uids-fit : (family : ℕ) (tags : List Tag) → AllObey tags → (i : ℕ) → getD (answering family tags) i 0 < 16 ^ 16
+pub uids-fit : (family : ℕ) (tags : List Tag) → AllObey tags → (i : ℕ) → getD (answering family tags) i 0 < 16 ^ 16
 unfolding answering
 uids-fit family [] none i = omega arith
 uids-fit family (t ∷ ts) (more obeys rest) i = go (answers family (t .card)) i (λ k. uids-fit family ts rest k)
@@ -38,7 +38,7 @@ uids-fit family (t ∷ ts) (more obeys rest) i = go (answers family (t .card)) i
 
 -- ---- what becomes of the cards
 
-cards-of : (family : ℕ) (w : Walk) (ts₀ ts : List Tag) → Both (AtSlot family (w .level) (w .mask) (w .slot)) ts₀ ts → cards ts ≡ cardsLeft family w ts₀
+pub cards-of : (family : ℕ) (w : Walk) (ts₀ ts : List Tag) → Both (AtSlot family (w .level) (w .mask) (w .slot)) ts₀ ts → cards ts ≡ cardsLeft family w ts₀
 unfolding cards cardsLeft cardLeft inStep
 cards-of family w [] [] row.none = refl
 cards-of family w (t₀ ∷ ts₀) (t ∷ ts) (row.more h b) = ap₂ (λ (c : Card) (cs : List Card). c ∷ cs) (h .card) (cards-of family w ts₀ ts b)

@@ -4,7 +4,7 @@ use mathlib.Core.Path.{_≡_, refl, ap, _∙_}
 use mathlib.Core.Bool.{Bool, true, false, cond}
 use Prim.Native.Nat.{ℕ, suc, _^_, _≤_, _<_}
 use native.Mathlib.Omega.{arith}
-use mathlib.Core.List.{List}
+use mathlib.Core.List.{List, [], _∷_}
 use borrow.Author.Tests.{le-leb, lt-ltb}
 use lib.ListN.{length}
 use Rattle.card.specs.declared.Card.{Card}
@@ -50,6 +50,11 @@ pub served-same : (c card : Card) (memory : ℕ) (locks : List ℕ) (room : ℕ)
     → refusal c memory locks room ≡ 0 → refusal card memory locks room ≡ 0
 unfolding refusal lengthsFit roomFits
 served-same c card memory locks room a b accepted e = rw (accepted, a, b) (rest-of (isAccepted c) _ 0 e)
+
+-- a card of one byte, not locked, is served
+pub byte-served : (c : Card) (room : ℕ) → isAccepted c ≡ true → c .blocks ≡ 1 → c .size ≡ 1 → 32 ≤ room → refusal c 1 (0 ∷ []) room ≡ 0
+unfolding refusal lengthsFit locksFit roomFits
+byte-served c room accepted blocks size h = rw (accepted, blocks, size, le-leb 32 room h, le-leb 5 room (omega arith))
 
 -- ---- the card in step
 

@@ -29,3 +29,4 @@ pub mod PlayedSlot
 pub mod Stages
 pub mod AnyWalk
 pub mod Demand3
+pub mod Answering

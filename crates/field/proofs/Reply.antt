@@ -23,6 +23,10 @@ use Rattle.walk.specs.Hear.{uidOf, isClean}
 unfoldable pub message : Card → List ℕ
 message c = sealed (0x00 ∷ presence c)
 
+pub message-bytes : (c : Card) → message c ≡ sealed (0x00 ∷ c .dsfid ∷ fieldBytes 8 (c .uid))
+unfolding message presence
+message-bytes c = refl
+
 pub length-message : (c : Card) → length (message c) ≡ 12
 unfolding message
 length-message c = length-sealed (0x00 ∷ presence c) ∙ omega (arith, length-presence c)

@@ -6,6 +6,7 @@ use Prim.Native.Nat.{ℕ, _+_, _*_, _/_, _^_, _≤_, _<_}
 use native.Mathlib.Omega.{arith}
 use mathlib.Core.List.{List, _∷_, _++_}
 use lib.ListN.{length}
+use borrow.Author.Tests.{ltb-true, ltb-false, le-leb, lt-leb}
 use Rattle.crc.specs.Check.{checkBytes, sealed}
 use Rattle.crc.proofs.Seal.{length-sealed}
 use Rattle.frames.specs.Flags.{flagsOf}
@@ -16,6 +17,8 @@ use Rattle.frames.proofs.Sound.{sound-of-sealed}
 use Rattle.card.specs.declared.Card.{Card}
 use Rattle.card.specs.declared.Sequence.the-variants.{Running}
 use Rattle.requests.specs.declared.Effect.the-variants.{Leave}
+use Rattle.card.specs.declared.Mode.{Mode}
+use Rattle.card.specs.declared.Mode.the-variants.{Ready, Quiet, Selected}
 use Rattle.card.specs.Record.{isQuiet, remade, cleared, inSequence}
 use Rattle.card.specs.Inventory.{fitsFamily, present, inventoried}
 use Rattle.slots.specs.Fits.{maskBytes, fitsMask, fitsSlot}
@@ -24,7 +27,7 @@ use Rattle.requests.specs.Frame.{leaving, decided}
 use Rattle.walk.specs.declared.Walk.{Walk}
 use Rattle.walk.specs.Record.{maskLength, hasFamily}
 use Rattle.walk.specs.Ask.{requestHead, requestBody, request}
-use Rattle.field.specs.Field.{answers}
+use Rattle.field.specs.Field.{listens, familyFits, answers}
 use Rattle.field.proofs.InTime.{inStep, calls}
 use Rattle.field.proofs.Request.{joined, family-parsed, none-parsed}
 
@@ -77,15 +80,21 @@ none-decided : (c : Card) (locks rest : List ℕ) → isSound (0x06 ∷ rest) �
 unfolding decided flagsOf
 none-decided c locks rest e = rw e
 
--- which cards take part
+-- which cards take part: the card's tests are those of the field
+quiet-listens : (m : Mode) → not (isQuiet m) ≡ listens m
+unfolding isQuiet listens
+quiet-listens Ready = refl
+quiet-listens Quiet = refl
+quiet-listens Selected = refl
+
 family-answers : (w : Walk) (c : Card) → hasFamily w ≡ true
     → (not (isQuiet (cleared c .mode)) && fitsFamily (w .family) (cleared c .afi)) ≡ answers (w .family) c
-unfolding answers hasFamily cleared remade
-family-answers w c e = rw e
+unfolding answers familyFits fitsFamily hasFamily cleared remade
+family-answers w c e = rw (quiet-listens (c .mode), lt-leb 256 (w .family) (ltb-true (w .family) 256 e))
 
 none-answers : (w : Walk) (c : Card) → hasFamily w ≡ false → (not (isQuiet (cleared c .mode)) && true) ≡ answers (w .family) c
-unfolding answers hasFamily cleared remade
-none-answers w c e = rw e
+unfolding answers familyFits hasFamily cleared remade
+none-answers w c e = rw (quiet-listens (c .mode), le-leb 256 (w .family) (ltb-false (w .family) 256 e))
 
 -- a card that joins is in step
 joined-deed : (c : Card) (w : Walk) → w .slot ≡ 0

@@ -58,11 +58,11 @@ walk-asked w room e h =
 
 -- ---- what is sent
 
-sent-request : (w : Walk) → isRunning w ≡ true → w .slot ≡ 0 → sent w ≡ Request (length (request w))
+pub sent-request : (w : Walk) → isRunning w ≡ true → w .slot ≡ 0 → sent w ≡ Request (length (request w))
 unfolding sent
 sent-request w running e = rw (running, eq-eqb (w .slot) 0 e)
 
-sent-mark : (w : Walk) (s : ℕ) → isRunning w ≡ true → w .slot ≡ suc s → sent w ≡ Mark
+pub sent-mark : (w : Walk) (s : ℕ) → isRunning w ≡ true → w .slot ≡ suc s → sent w ≡ Mark
 unfolding sent
 sent-mark w s running e = rw (running, ne-eqb (w .slot) 0 (λ z. omega arith))
 

@@ -36,7 +36,7 @@ stage-fresh family tags us list room obey h g =
     hears (start-fixed us family list h) (omega arith) refl refl g (omega arith) (follows-self tags obey)
 
 -- a walk that is not running has an ending
-running-of : (w : Walk) → w .ending ≡ 0 → isRunning w ≡ true
+pub running-of : (w : Walk) → w .ending ≡ 0 → isRunning w ≡ true
 unfolding isRunning
 running-of w h = eq-eqb (w .ending) 0 h
 

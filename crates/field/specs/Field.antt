@@ -1,14 +1,14 @@
 -- Demand 3: "a field of cards that obey demand 2 .. One reply arrives whole; two or more in a slot arrive as a clash."
 use Prim.Native.Nat.{ℕ, _^_, _<_}
-use mathlib.Core.Bool.{Bool, true, cond, not, _&&_}
+use mathlib.Core.Bool.{Bool, true, false, cond, _&&_, _||_}
 use mathlib.Core.List.{List, [], _∷_}
 use mathlib.Core.Path.{_≡_}
-use lib.Dec.{ltb, eqb}
+use lib.Dec.{leb, eqb}
 use lib.ListN.{length, take}
 use Rattle.card.specs.declared.Card.{Card}
+use Rattle.card.specs.declared.Mode.{Mode}
+use Rattle.card.specs.declared.Mode.the-variants.{Ready, Quiet, Selected}
 use Rattle.card.specs.declared.Reply.the-variants.{Silence}
-use Rattle.card.specs.Record.{isQuiet}
-use Rattle.card.specs.Inventory.{fitsFamily}
 use Rattle.play.specs.Refusal.{refusal}
 use Rattle.play.specs.Events.{Outcome, replied, frameEvent, markEvent}
 use Rattle.walk.specs.declared.Kind.{Kind}
@@ -28,10 +28,20 @@ pub record Obeys (t : Tag) : Type 0 where
   pub accepted : refusal (t .card) (length (t .memory)) (t .locks) (length (t .room)) ≡ 0
   pub uid-fits : t .card .uid < 2 ^ 64
 
--- 01, The card, step 3: Quiet is silent; "The card takes part if no AFI is present, the AFI is 00, or it equals the card's". A family from 256
--- on is none
+-- ---- the cards that answer: said here in full, so that a wrong test in the card can't pass as its own measure
+
+-- 01, The card, step 3: "Quiet, ..: silence". Ready and Selected alike
+unfoldable pub listens : Mode → Bool
+listens Ready = true
+listens Quiet = false
+listens Selected = true
+
+-- "The card takes part if no AFI is present, the AFI is 00, or it equals the card's". A family from 256 on is none
+unfoldable pub familyFits : ℕ → ℕ → Bool
+familyFits family afi = leb 256 family || (eqb family 0x00 || eqb family afi)
+
 unfoldable pub answers : ℕ → Card → Bool
-answers family c = not (isQuiet (c .mode)) && cond (ltb family 256) (fitsFamily family (c .afi)) true
+answers family c = listens (c .mode) && familyFits family (c .afi)
 
 -- the UIDs of the cards that answer a family
 unfoldable pub answering : ℕ → List Tag → List ℕ
