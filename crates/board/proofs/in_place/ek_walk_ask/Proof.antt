@@ -44,6 +44,7 @@ use Rattle.walk.specs.Ask.{asking}
 use Rattle.walk.proofs.Walk as T
 use Rattle.walk.proofs.Walk.Laws as T′
 use Rattle.board.specs.Walked.{AsksInPlace}
+use Rattle.board.proofs.Records.{spelled}
 use Rattle.board.proofs.in_place.ask as callee
 use Rattle.board.proofs.in_place.ask.Symbol as callee-def
 use Rattle.board.proofs.in_place.ask.Symbol.{name as #callee}
@@ -58,10 +59,6 @@ stayed = (stay-none-ref (0 ∷ []) tt (plain (λ _. T.the-row)) yes, (gave-slice
 
 abbrev Callee : {M : Type 1} (𝓤 : URA M) (H : Heap 𝓤) (A : Atoms 𝓤) (all : Memory → SProp 𝓤) (run : Routine → Fun 𝓤) → Contract 𝓤
 Callee 𝓤 H A all run = tripleOf 𝓤 H A callee.signature (callee.spec 𝓤 H A all run)
-
--- the machine's spelling of a walk
-abbrev mach : Walk → List Val
-mach = LL.vals T.the-type T′.the-laws
 
 module _ {M : Type 1} (𝓤 : URA M) (H : Heap 𝓤) (A : Atoms 𝓤) (W : Given 𝓤 H A) (all : Memory → SProp 𝓤) (run : Routine → Fun 𝓤) (κ κ′ : Lft) (q q′ : Share) (b o : ℕ) (γ : GName) (w : Walk) (x : RefT (List ℕ)) (room : Room u8 (length (x .now))) where
   abbrev given : RefT Walk × (RefT (List ℕ) × Unit {0})
@@ -81,9 +78,9 @@ module _ {M : Type 1} (𝓤 : URA M) (H : Heap 𝓤) (A : Atoms 𝓤) (W : Given
 
   -- the callee, and what it asks: the walk by value, and the room with its lifetime's token
   abbrev to-callee : Callee 𝓤 H A all run .Ghost
-  to-callee = (((κ′, tt), (q′, tt), tt, (w, (x, tt)), (mach w, (s ∷ [], tt))), tt)
+  to-callee = (((κ′, tt), (q′, tt), tt, (w, (x, tt)), (spelled w, (s ∷ [], tt))), tt)
 
-  asks : Is T.the-row w (mach w) → ent 𝓤 (sep 𝓤 (sep 𝓤 (A .lft κ′ q′) (sem 𝓤 H A ftrue)) (sem 𝓤 H A (owns (MutSlice (named 0) κ′ u8 ∷ []) (x, tt) (s ∷ [], tt)))) (Callee 𝓤 H A all run .pre to-callee)
+  asks : Is T.the-row w (spelled w) → ent 𝓤 (sep 𝓤 (sep 𝓤 (A .lft κ′ q′) (sem 𝓤 H A ftrue)) (sem 𝓤 H A (owns (MutSlice (named 0) κ′ u8 ∷ []) (x, tt) (s ∷ [], tt)))) (Callee 𝓤 H A all run .pre to-callee)
   asks is =
       qed W ((‵ (flft κ′ q′) ⊛ ‵ ftrue) ∷ ‵ (owns (MutSlice (named 0) κ′ u8 ∷ []) (x, tt) (s ∷ [], tt)) ∷ []) ∵ move ! (1 ∷ []) $
       owned ! T.the-row (Is T.the-row) (LL.makes T.the-type T′.the-plain 𝓤 H A) w _ is $ fjoin ! $ move ! (1 ∷ 0 ∷ []) $ join ! $ nothing ! $ move ! (1 ∷ 0 ∷ []) $ join ! $ done !
@@ -102,11 +99,11 @@ module _ {M : Type 1} (𝓤 : URA M) (H : Heap 𝓤) (A : Atoms 𝓤) (W : Given
         alloc1 ! (λ l₀. alloc1 ! (λ l₁. alloc1 ! (λ l₂. alloc1 ! (λ l₃. alloc1 ! (λ l₄. alloc1 ! (λ l₅. alloc0 ! $ params1 ! $ pass1 ! (init ! 8 refl (tt, tt)) $ pass1 ! (init ! 6 refl (tt, (tt, (record { fits = room .0 }, tt)))) $ pass0 ! $
         -- the borrow of the record is looked into for the load, and shut again
         move ! (13 ∷ []) $ fsplit ! $ fsplit3 ! $ drop ! $ move ! (15 ∷ []) $ split ! $ move ! (3 ∷ 0 ∷ []) $
-        looks ! tt T.the-row (Is T.the-row) (shows 𝓤 H A T.the-row) mach (LL.tells T.the-type T′.the-laws) (LL.copy T.the-type T′.the-copy 𝓤 H A W) w b o (λ t vs. spelt ! T.the-row (Is T.the-row) (shows 𝓤 H A T.the-row) mach (LL.tells T.the-type T′.the-laws) t w vs b o $
-        move ! (1 ∷ []) $ peeks ! T.the-row (Is T.the-row) (shows 𝓤 H A T.the-row) w (mach w) (λ was. move ! (1 ∷ 0 ∷ []) $
+        looks ! tt T.the-row (Is T.the-row) (shows 𝓤 H A T.the-row) spelled (LL.tells T.the-type T′.the-laws) (LL.copy T.the-type T′.the-copy 𝓤 H A W) w b o (λ t vs. spelt ! T.the-row (Is T.the-row) (shows 𝓤 H A T.the-row) spelled (LL.tells T.the-type T′.the-laws) t w vs b o $
+        move ! (1 ∷ []) $ peeks ! T.the-row (Is T.the-row) (shows 𝓤 H A T.the-row) w (spelled w) (λ was. move ! (1 ∷ 0 ∷ []) $
         -- [a share of the cell; what the walk owns; what shuts it; the shared borrow; the room's token; res; what the room owns; _5; …; _4; …; _3; …; _2; …; _1; …; room for _0; …]
         assigns ! (of-opd ! (load ! (from ! (hop ! (look ! 15 refl) (stop !))) (look-raw ! 0 refl))) (from ! (stop !)) (init ! 11 refl (LL.lawful T.the-type T′.the-laws 𝓤 H A W .typed w _ was .0)) $
-        shuts ! tt T.the-row t w (mach w) b o $
+        shuts ! tt T.the-row t w (spelled w) b o $
         -- [the record's token; the shared borrow; the room's token; res; what the room owns; _5; …; _4; …; _3; …; _2; …; _1; …; room for _0; …]
         assigns ! (addr ! (from ! (fld ! refl (hop ! (look-in ! 11 (sub ! 0 refl (whole !))) (stop !))))) (from ! (stop !)) (init ! 7 refl (tt, tt)) $
         assigns ! (agg ! (and-then ! (load ! (from ! (stop !)) (look ! 7 refl)) (and-then ! (load ! (from ! (fld ! refl (stop !))) (look-in ! 11 (sub ! 1 refl (whole !)))) (no-more !)))) (from ! (stop !)) (init ! 5 refl (tt, (tt, (record { fits = room .0 }, tt)))) $

@@ -46,6 +46,7 @@ use Rattle.walk.proofs.Walk as T
 use Rattle.walk.proofs.Walk.Laws as T′
 use Rattle.board.specs.declared.in_place.Told.{Told}
 use Rattle.board.specs.Walked.{Tells}
+use Rattle.board.proofs.Records.{spelled, walk-told, answer-told}
 use Rattle.board.proofs.in_place.Told as R
 use Rattle.board.proofs.in_place.Told.Laws as R′
 use Rattle.board.proofs.in_place.hear_clash as callee
@@ -62,17 +63,6 @@ stayed = (stay-ref (0 ∷ []) tt (plain (λ _. T.the-row)), (gave-slice (1 ∷ [
 
 abbrev Callee : {M : Type 1} (𝓤 : URA M) (H : Heap 𝓤) (A : Atoms 𝓤) (all : Memory → SProp 𝓤) (run : Routine → Fun 𝓤) → Contract 𝓤
 Callee 𝓤 H A all run = tripleOf 𝓤 H A callee.signature (callee.spec 𝓤 H A all run)
-
--- the machine's spelling of a walk
-abbrev mach : Walk → List Val
-mach = LL.vals T.the-type T′.the-laws
-
--- what whoever holds the answer knows of its two parts
-walk-of : (r : Told) (v : Val) → Is R.the-row r (v ∷ []) → Is T.the-row (r .walk) (mach (r .walk))
-walk-of r v is = LL.owed R.the-type R′.the-laws r (v ∷ []) is .0
-
-number-of : (r : Told) (v : Val) → Is R.the-row r (v ∷ []) → Is i64 (r .answer) (vint w64 (ofZ w64 (r .answer)) ∷ [])
-number-of r v is = LL.owed R.the-type R′.the-laws r (v ∷ []) is .1 .0
 
 module _ {M : Type 1} (𝓤 : URA M) (H : Heap 𝓤) (A : Atoms 𝓤) (W : Given 𝓤 H A) (all : Memory → SProp 𝓤) (run : Routine → Fun 𝓤) (κ κ′ : Lft) (q q′ : Share) (b o : ℕ) (γ : GName) (w : Walk) (x : RefT (List ℕ)) (room : Room u64 (length (x .now))) where
   abbrev given : RefT Walk × (RefT (List ℕ) × Unit {0})
@@ -92,9 +82,9 @@ module _ {M : Type 1} (𝓤 : URA M) (H : Heap 𝓤) (A : Atoms 𝓤) (W : Given
 
   -- the callee, and what it asks: the walk by value, and the list with its lifetime's token
   abbrev to-callee : Callee 𝓤 H A all run .Ghost
-  to-callee = (((κ′, tt), (q′, tt), tt, (w, (x, tt)), (mach w, (s ∷ [], tt))), tt)
+  to-callee = (((κ′, tt), (q′, tt), tt, (w, (x, tt)), (spelled w, (s ∷ [], tt))), tt)
 
-  asks : Is T.the-row w (mach w) → ent 𝓤 (sep 𝓤 (sep 𝓤 (A .lft κ′ q′) (sem 𝓤 H A ftrue)) (sem 𝓤 H A (owns (MutSlice (named 0) κ′ u64 ∷ []) (x, tt) (s ∷ [], tt)))) (Callee 𝓤 H A all run .pre to-callee)
+  asks : Is T.the-row w (spelled w) → ent 𝓤 (sep 𝓤 (sep 𝓤 (A .lft κ′ q′) (sem 𝓤 H A ftrue)) (sem 𝓤 H A (owns (MutSlice (named 0) κ′ u64 ∷ []) (x, tt) (s ∷ [], tt)))) (Callee 𝓤 H A all run .pre to-callee)
   asks is =
       qed W ((‵ (flft κ′ q′) ⊛ ‵ ftrue) ∷ ‵ (owns (MutSlice (named 0) κ′ u64 ∷ []) (x, tt) (s ∷ [], tt)) ∷ []) ∵ move ! (1 ∷ []) $
       owned ! T.the-row (Is T.the-row) (LL.makes T.the-type T′.the-plain 𝓤 H A) w _ is $ fjoin ! $ move ! (1 ∷ 0 ∷ []) $ join ! $ nothing ! $ move ! (1 ∷ 0 ∷ []) $ join ! $ done !
@@ -106,7 +96,7 @@ module _ {M : Type 1} (𝓤 : URA M) (H : Heap 𝓤) (A : Atoms 𝓤) (W : Given
       suffices ! _ (ends-at 𝓤 H A here.ended stayed (here.clauses 𝓤 H A all run) W (((κ, (κ′, tt)), (q, (q′, tt)), tt, given, vals), tt) (vint w64 (ofZ w64 (r .answer))) (r .answer) (r .walk, (zs, tt)) (tt, (l, tt))) $
       says ! (record { answer = e .answer; walk-left = e .walk; list-left = e .list-left }) $
       move ! (2 ∷ 3 ∷ []) $ join ! $ frame ! $ feqI ! (List Val) (vptr b o ∷ []) (vptr b o ∷ []) refl $ fjoin3 ! $ nothing ! $ move ! (2 ∷ 0 ∷ []) $ fjoin ! $ move ! (1 ∷ 0 ∷ []) $ fjoin ! $
-      owned ! i64 (Is i64) (sint-makes 𝓤 H A W w64) (r .answer) _ (number-of r v is) $ move ! (1 ∷ 0 ∷ []) $ done !
+      owned ! i64 (Is i64) (sint-makes 𝓤 H A W w64) (r .answer) _ (answer-told r v is) $ move ! (1 ∷ 0 ∷ []) $ done !
 
   module _ (C : Calls 𝓤 H) (Λ : Loops 𝓤 H) (fm : FmC 𝓤 H (W .laws) C) (known : Triple 𝓤 (C #callee) (Callee 𝓤 H A all run)) where
     walk : ent 𝓤 (onEntry 𝓤 H A here.signature (κ, (κ′, tt)) (q, (q′, tt)) given vals) (WpFn 𝓤 H C Λ code.function (vptr b o ∷ s ∷ []) Post)
@@ -115,8 +105,8 @@ module _ {M : Type 1} (𝓤 : URA M) (H : Heap 𝓤) (A : Atoms 𝓤) (W : Given
         alloc1 ! (λ l₀. alloc1 ! (λ l₁. alloc1 ! (λ l₂. alloc1 ! (λ l₃. alloc1 ! (λ l₄. alloc1 ! (λ l₅. alloc1 ! (λ l₆. alloc0 ! $ params1 ! $ pass1 ! (init ! 10 refl (tt, tt)) $ pass1 ! (init ! 8 refl (tt, (tt, (record { fits = room .0 }, tt)))) $ pass0 ! $
         -- the borrow of the record is opened, and stays open over the call
         move ! (15 ∷ []) $ fsplit ! $ fsplit3 ! $ drop ! $ move ! (17 ∷ []) $ split ! $ move ! (2 ∷ 3 ∷ 0 ∷ []) $
-        opens ! tt T.the-row {h = w} b o (λ vs. spelt ! T.the-row (Is T.the-row) (shows 𝓤 H A T.the-row) mach (LL.tells T.the-type T′.the-laws) fullShare w vs b o $
-        move ! (1 ∷ []) $ peeks ! T.the-row (Is T.the-row) (shows 𝓤 H A T.the-row) w (mach w) (λ was. move ! (1 ∷ 0 ∷ []) $
+        opens ! tt T.the-row {h = w} b o (λ vs. spelt ! T.the-row (Is T.the-row) (shows 𝓤 H A T.the-row) spelled (LL.tells T.the-type T′.the-laws) fullShare w vs b o $
+        move ! (1 ∷ []) $ peeks ! T.the-row (Is T.the-row) (shows 𝓤 H A T.the-row) w (spelled w) (λ was. move ! (1 ∷ 0 ∷ []) $
         -- [the cell; what the walk owns; the open borrow; obs; auth; the list's token; what the list owns; _6; …; _5; …; _4; …; _3; …; _2; …; _1; …; room for _0; …]
         assigns ! (of-opd ! (load ! (from ! (hop ! (look ! 17 refl) (stop !))) (look-raw ! 0 refl))) (from ! (stop !)) (init ! 11 refl (LL.lawful T.the-type T′.the-laws 𝓤 H A W .typed w _ was .0)) $
         assigns ! (addr ! (from ! (fld ! refl (hop ! (look-in ! 15 (sub ! 0 refl (whole !))) (stop !))))) (from ! (stop !)) (init ! 9 refl (tt, tt)) $
@@ -130,10 +120,10 @@ module _ {M : Type 1} (𝓤 : URA M) (H : Heap 𝓤) (A : Atoms 𝓤) (W : Given
         move ! (3 ∷ []) $ split ! $ move ! (1 ∷ []) $ peeks ! R.the-row (Is R.the-row) (shows 𝓤 H A R.the-row) r (v ∷ []) (λ is.
         -- [what the answer owns; the list's token; the last list; …; …; the cell; what the walk owns; the open borrow; obs; auth; _6; …; _5; …; _4; …; _3; …; _2; …; _1; …; room for _0; …]
         land ! (from ! (stop !)) (init ! 16 refl (LL.lawful R.the-type R′.the-laws 𝓤 H A W .typed r _ is .0)) $ rewrite ! 16 (λ (u : Val). ‵ (fat fullShare R′.mir l₃ 0 u)) (ap only (LL.tells R.the-type R′.the-laws r _ is)) refl $
-        assigns ! (of-opd ! (load ! (from ! (fld ! refl (stop !))) (look-in ! 16 (sub ! 0 refl (whole !))))) (from ! (hop ! (look ! 20 refl) (stop !))) (store-raw ! 5 refl (LL.lawful T.the-type T′.the-laws 𝓤 H A W .typed (r .walk) _ (walk-of r v is) .0)) $
-        assigns ! (of-opd ! (load ! (from ! (fld ! refl (stop !))) (look-in ! 16 (sub ! 1 refl (whole !))))) (from ! (stop !)) (init ! 22 refl (sint-lawful 𝓤 H A W w64 .typed (r .answer) _ (number-of r v is) .0)) $
+        assigns ! (of-opd ! (load ! (from ! (fld ! refl (stop !))) (look-in ! 16 (sub ! 0 refl (whole !))))) (from ! (hop ! (look ! 20 refl) (stop !))) (store-raw ! 5 refl (LL.lawful T.the-type T′.the-laws 𝓤 H A W .typed (r .walk) _ (walk-told r v is) .0)) $
+        assigns ! (of-opd ! (load ! (from ! (fld ! refl (stop !))) (look-in ! 16 (sub ! 1 refl (whole !))))) (from ! (stop !)) (init ! 22 refl (sint-lawful 𝓤 H A W w64 .typed (r .answer) _ (answer-told r v is) .0)) $
         -- the borrow is closed at the next walk
-        drop ! $ owned ! T.the-row (Is T.the-row) (LL.makes T.the-type T′.the-plain 𝓤 H A) (r .walk) _ (walk-of r v is) $ move ! (5 ∷ 0 ∷ 7 ∷ 8 ∷ 9 ∷ []) $ closes ! tt T.the-row (r .walk) (mach (r .walk)) b o $
+        drop ! $ owned ! T.the-row (Is T.the-row) (LL.makes T.the-type T′.the-plain 𝓤 H A) (r .walk) _ (walk-told r v is) $ move ! (5 ∷ 0 ∷ 7 ∷ 8 ∷ 9 ∷ []) $ closes ! tt T.the-row (r .walk) (spelled (r .walk)) b o $
         returns ! (look ! 20 refl) $ forget ! 8 refl $ forget ! 10 refl $ forget ! 12 refl $ forget ! 14 refl $ forget ! 16 refl $ forget ! 18 refl $ forget ! 20 refl $
         move ! (20 ∷ 21 ∷ []) $ free1 ! $ move ! (18 ∷ 19 ∷ []) $ free1 ! $ move ! (16 ∷ 17 ∷ []) $ free1 ! $ move ! (14 ∷ 15 ∷ []) $ free1 ! $ move ! (12 ∷ 13 ∷ []) $ free1 ! $ move ! (10 ∷ 11 ∷ []) $ free1 ! $ move ! (8 ∷ 9 ∷ []) $ free1 ! $ free0 ! $
         keep ! (0 ∷ 1 ∷ 2 ∷ 3 ∷ 4 ∷ []) $ by ! (exits r v (zs .1 .0) is e l))))))))))))))))
