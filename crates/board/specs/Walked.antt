@@ -33,15 +33,15 @@ pub record HearsInPlace (h : Hearing) (r : ℤ) (walk : Walk) (list : List ℕ) 
 
 -- ---- asking: "request, slot mark or nothing"
 
--- a request by its length, which is 5 to 14; a slot mark has one byte; nothing has none
-unfoldable pub answerOf : Send → ℤ
-answerOf Nothing = pos 0
-answerOf Mark = pos 1
-answerOf (Request n) = pos n
+-- by its length: a request has 5 to 14 bytes, a slot mark is one, and nothing is none
+unfoldable pub lengthOf : Send → ℕ
+lengthOf Nothing = 0
+lengthOf Mark = 1
+lengthOf (Request n) = n
 
 -- minus the number of the refusal, or what to send
 unfoldable pub askAnswer : Asking → ℤ
-askAnswer a = cond (eqb (a .number) 0) (answerOf (a .send)) (refused (a .number))
+askAnswer a = cond (eqb (a .number) 0) (pos (lengthOf (a .send))) (refused (a .number))
 
 -- what the call promises, of a walk that is lent to be read: the number r, and every byte of the room
 pub record AsksInPlace (a : Asking) (r : ℤ) (room : List ℕ) : Type 0 where

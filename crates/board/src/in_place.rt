@@ -7,7 +7,7 @@ ghost use Rattle.walk.specs.Record.{started};
 ghost use Rattle.walk.specs.Hear.{hearing};
 ghost use Rattle.walk.specs.Ask.{asking};
 ghost use Rattle.walk.specs.declared.Kind.the-variants.{Silence, Clash, Bytes};
-ghost use Rattle.board.specs.Walked.{toldOf, answerOf, Tells, HearsInPlace, AsksInPlace};
+ghost use Rattle.board.specs.Walked.{toldOf, lengthOf, Tells, HearsInPlace, AsksInPlace};
 use walk::Asked;
 use walk::Heard;
 use walk::Kind;
@@ -20,7 +20,7 @@ pub(crate) struct Told {
     pub answer: i64,
 }
 
-// Minus the number of a refusal, or 0.
+// Minus the number of a refusal; 0 stays.
 fn minus(number: u8) -> i64
     ensures { λ r. ⌜ r ≡ refused number ⌝ }
 {
@@ -57,13 +57,14 @@ fn hear_bytes(walk: Walk, bytes: &[u8], list: &mut [u64]) -> Told
     tell(walk.hear(Kind::Bytes, bytes, list))
 }
 
-fn answer(send: Send) -> i64
-    ensures { λ r. ⌜ r ≡ answerOf send ⌝ }
+// A request's length, 1 for a slot mark, 0 for nothing.
+fn length_of(send: Send) -> usize
+    ensures { λ r. ⌜ r ≡ lengthOf send ⌝ }
 {
     match send {
         Send::Nothing => 0,
         Send::Mark => 1,
-        Send::Request(length) => length as i64,
+        Send::Request(length) => length,
     }
 }
 
@@ -75,7 +76,7 @@ fn ask(walk: Walk, room: &mut [u8]) -> i64
         return minus(asked.number);
     }
     let send = asked.send;
-    answer(send)
+    length_of(send) as i64
 }
 
 #[no_mangle]

@@ -1,6 +1,7 @@
 // The functions that the rack board's C firmware calls, each a thin shell with the promise of the one it calls.
 // include/espenknoten.h declares them.
 mod in_place;
+
 ghost use mathlib.Core.Path.{_≡_};
 ghost use Rattle.crc.specs.Check.{checkOf};
 ghost use Rattle.frames.specs.Frame.{Seals, isSound};

@@ -1,4 +1,6 @@
 use borrow.Author.Needs.{needs}
+use mathlib.Core.Path.{refl}
+use Rattle.board.proofs.Told.{tells-of-hears}
 use Rattle.board.proofs.in_place.hear_bytes.Statement.{statement}
 use Rattle.board.proofs.in_place.hear_bytes.Tie as tie
 use Rattle.board.proofs.in_place.hear_bytes.Reads as reads
@@ -20,7 +22,7 @@ same-length c = search needs
 
 -- src/in_place.rt:54:1
 returns : tie.Need-returns
-returns c = ?
+returns c = tells-of-hears _ _ _ _ _ (c .before .before .before .hear .ensures) (c .tell .ensures) refl
 
 pub hear-bytes-spec : {M : Type 1} → statement M
 hear-bytes-spec = tie.close (tie.spec hear-requires tell-requires same-length returns)

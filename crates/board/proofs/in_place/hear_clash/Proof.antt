@@ -1,4 +1,5 @@
 use borrow.Author.Needs.{needs}
+use Rattle.board.proofs.Told.{tells-of-hears, clash-has-no-bytes}
 use Rattle.board.proofs.in_place.hear_clash.Statement.{statement}
 use Rattle.board.proofs.in_place.hear_clash.Tie as tie
 use Rattle.board.proofs.in_place.hear_clash.Reads as reads
@@ -24,7 +25,7 @@ same-length c = search needs
 
 -- src/in_place.rt:47:1
 returns : tie.Need-returns
-returns c = ?
+returns c = tells-of-hears _ _ _ _ _ (c .before .before .before .hear .ensures) (c .tell .ensures) (clash-has-no-bytes _ _ _)
 
 pub hear-clash-spec : {M : Type 1} → statement M
 hear-clash-spec =

@@ -1,4 +1,9 @@
-use borrow.Author.Needs.{needs}
+-- `tell` keeps its promise: the walk as it was heard, beside minus the number. Assumes nothing.
+use mathlib.Core.Path.{_∙_}
+use mir.Syntax.{w64}
+use mir.ValLaws.{toZ-ofZ}
+use borrow.Author.Needs.{needs, sfits-of}
+use Rattle.board.specs.Walked.{toldOf}
 use Rattle.board.proofs.in_place.tell.Statement.{statement}
 use Rattle.board.proofs.in_place.tell.Tie as tie
 use Rattle.board.proofs.in_place.tell.Reads as reads
@@ -11,7 +16,10 @@ minus-requires c κs = search needs
 
 -- src/in_place.rt:30:1
 returns : tie.Need-returns
-returns c = ?
+unfolding toldOf
+returns c =
+    let answer = toZ-ofZ w64 (c .minus .result) (sfits-of (c .minus .ok)) ∙ c .minus .ensures in
+    λ i. record { walk = c .before .before .args .heard .walk; answer = answer i }
 
 pub tell-spec : {M : Type 1} → statement M
 tell-spec = tie.close (tie.spec minus-requires returns)
