@@ -1,3 +1,4 @@
 pub mod Records
 pub mod Numbers
 pub mod Told
+pub mod UniqueWalked

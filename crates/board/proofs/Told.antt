@@ -1,5 +1,5 @@
 -- From what the functions by value promise to what C is told: hearing, and what to send. By cases on the refusal. Assumes nothing.
-use mathlib.Core.Path.{_≡_, refl, sym, ap, subst, _∙_}
+use mathlib.Core.Path.{_≡_, refl, sym, ap, _∙_}
 use mathlib.Core.Bool.{Bool, true, false, cond}
 use mathlib.Core.List.{List, []}
 use Prim.Native.Nat.{ℕ, _<_, _≤_}
@@ -10,13 +10,12 @@ use lib.IntN.{ℤ, pos}
 use lib.ListN.{length}
 use Rattle.lent.specs.Lent.{refused}
 use Rattle.walk.specs.declared.Walk.{Walk}
-use Rattle.walk.specs.declared.Kind.{Kind}
 use Rattle.walk.specs.declared.Kind.the-variants.{Silence, Clash}
 use Rattle.walk.specs.declared.Heard.{Heard}
 use Rattle.walk.specs.declared.Asked.{Asked}
 use Rattle.walk.specs.declared.Send.{Send}
 use Rattle.walk.specs.declared.Send.the-variants.{Nothing, Mark, Request}
-use Rattle.walk.specs.Record.{isRunning, isAccepted}
+use Rattle.walk.specs.Record.{isRunning}
 use Rattle.walk.specs.Hear.{judged, Hearing, hearing, Hears}
 use Rattle.walk.specs.Ask.{request, sent, refusal, Asking, asking, Asks}
 use Rattle.walk.proofs.Limits.{accepted-of-is-accepted}

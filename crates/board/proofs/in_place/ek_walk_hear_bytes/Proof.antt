@@ -43,7 +43,7 @@ use denote.Triple.Walked.{says, Stays, stay-ref, stay-none-slice, gave-slice, wa
 use denote.Exit.{yes}
 use Rattle.walk.specs.declared.Walk.{Walk}
 use Rattle.walk.specs.declared.Kind.the-variants.{Bytes}
-use Rattle.walk.specs.Hear.{Hearing, hearing}
+use Rattle.walk.specs.Hear.{hearing}
 use Rattle.walk.proofs.Walk as T
 use Rattle.walk.proofs.Walk.Laws as T′
 use Rattle.board.specs.declared.in_place.Told.{Told}

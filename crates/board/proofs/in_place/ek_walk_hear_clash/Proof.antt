@@ -41,7 +41,7 @@ use denote.Triple.Table.{entered, cited}
 use denote.Triple.Walked.{says, Stays, stay-ref, gave-slice, walkOf, goes-ref, goes-gave-slice, Walks, ends-at, walked, walk-meets}
 use Rattle.walk.specs.declared.Walk.{Walk}
 use Rattle.walk.specs.declared.Kind.the-variants.{Clash}
-use Rattle.walk.specs.Hear.{Hearing, hearing}
+use Rattle.walk.specs.Hear.{hearing}
 use Rattle.walk.proofs.Walk as T
 use Rattle.walk.proofs.Walk.Laws as T′
 use Rattle.board.specs.declared.in_place.Told.{Told}

@@ -1,33 +1,26 @@
+-- `length_of` keeps its promise: one length for each thing to send. Assumes nothing.
 use borrow.Author.Needs.{needs}
 use Rattle.board.specs.Walked.{lengthOf}
 use Rattle.board.proofs.in_place.length_of.Statement.{statement}
 use Rattle.board.proofs.in_place.length_of.Tie as tie
-use Rattle.board.proofs.in_place.length_of.Reads as reads
-use Rattle.board.proofs.in_place.length_of.Lts as lts
 
--- src/in_place.rt:65:26
 enum-told : tie.Need-enum-told
 enum-told c = search needs
 
--- src/in_place.rt:66:23
 enum-told-2 : tie.Need-enum-told-2
 enum-told-2 c = search needs
 
--- src/in_place.rt:67:23
 enum-known-send : tie.Need-enum-known-send
 enum-known-send c = search needs
 
--- src/in_place.rt:61:1
 returns : tie.Need-returns
 unfolding lengthOf
 returns c = rw (c .enum-told .given .1)
 
--- src/in_place.rt:61:1
 returns-2 : tie.Need-returns-2
 unfolding lengthOf
 returns-2 c = rw (c .enum-told2 .given .1)
 
--- src/in_place.rt:61:1
 returns-3 : tie.Need-returns-3
 unfolding lengthOf
 returns-3 c = rw (c .before .send .given .1)

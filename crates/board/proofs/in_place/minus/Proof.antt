@@ -1,27 +1,22 @@
 -- `minus` keeps its promise: 0 less a byte fits, and is minus that byte. Assumes nothing.
 use mathlib.Core.Path.{sym, subst, _∙_}
 use native.Mathlib.Omega.{arith}
+use borrow.Author.Needs.{needs}
 use lib.IntN.{pos, _-ℤ_}
 use mir.Syntax.{w64}
 use mir.Val.{SFits, toZ}
 use mir.ValLaws.{toZ-ofZ}
 use Rattle.board.proofs.Numbers.{refused-fits, minus-refused}
-use borrow.Author.Needs.{needs}
 use Rattle.board.proofs.in_place.minus.Statement.{statement}
 use Rattle.board.proofs.in_place.minus.Tie as tie
-use Rattle.board.proofs.in_place.minus.Reads as reads
-use Rattle.board.proofs.in_place.minus.Lts as lts
 
--- src/in_place.rt:27:10
 cast-result : tie.Need-cast-result
 cast-result c = search needs
 
--- src/in_place.rt:27:5
 sub-result : tie.Need-sub-result
 sub-result c =
     subst (SFits w64) (sym (minus-refused (c .args .number) (omega arith))) (refused-fits (c .args .number) (omega arith))
 
--- src/in_place.rt:24:1
 returns : tie.Need-returns
 returns c =
     toZ-ofZ w64 (pos 0 -ℤ toZ w64 (c .args .number)) (sub-result c) ∙ minus-refused (c .args .number) (omega arith)

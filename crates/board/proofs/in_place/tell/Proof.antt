@@ -1,20 +1,15 @@
 -- `tell` keeps its promise: the walk as it was heard, beside minus the number. Assumes nothing.
 use mathlib.Core.Path.{_∙_}
+use borrow.Author.Needs.{needs, sfits-of}
 use mir.Syntax.{w64}
 use mir.ValLaws.{toZ-ofZ}
-use borrow.Author.Needs.{needs, sfits-of}
 use Rattle.board.specs.Walked.{toldOf}
 use Rattle.board.proofs.in_place.tell.Statement.{statement}
 use Rattle.board.proofs.in_place.tell.Tie as tie
-use Rattle.board.proofs.in_place.tell.Reads as reads
-use Rattle.board.proofs.in_place.tell.Lts as lts
-use Rattle.board.proofs.in_place.minus.Reads as minus-reads
 
--- src/in_place.rt:36:17
 minus-requires : tie.Need-minus-requires
 minus-requires c κs = search needs
 
--- src/in_place.rt:30:1
 returns : tie.Need-returns
 unfolding toldOf
 returns c =
