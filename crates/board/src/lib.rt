@@ -1,6 +1,7 @@
 // The functions that the rack board's C firmware calls, each a thin shell with the promise of the one it calls; the card's over the bytes of
 // its record.
 // include/espenknoten.h declares them.
+mod in_place;
 mod record;
 
 ghost use mathlib.Core.Path.{_≡_};
