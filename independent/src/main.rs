@@ -15,8 +15,6 @@ mod calls;
 mod groups;
 mod notation;
 mod published;
-mod random;
-mod reference;
 mod tally;
 mod vectors;
 
@@ -26,6 +24,7 @@ use std::process::ExitCode;
 
 use calls::Calls;
 use groups::GROUPS;
+use independent::{random, reference};
 use random::Random;
 
 const SEED: u64 = 15693;
