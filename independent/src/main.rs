@@ -6,6 +6,8 @@
 //!     --manifest-path independent/Cargo.toml
 //! ```
 //!
+//! With `--features walk` the walk's calls are compared too.
+//!
 //! Takes a seed, in decimal, or none. VECTORS_DIR names the vectors' folder.
 //! Status 0: no difference. 1: some, or a hole. 2: vectors unreadable.
 
@@ -24,6 +26,8 @@ use std::process::ExitCode;
 
 use calls::Calls;
 use groups::GROUPS;
+#[cfg(feature = "walk")]
+use independent::crowds;
 use independent::{random, reference};
 use random::Random;
 
