@@ -54,7 +54,7 @@ fn run() -> Result<bool, String> {
         None => PathBuf::from(concat!(env!("CARGO_MANIFEST_DIR"), "/../vectors")),
     };
     let (checks, tracks) = (vectors::checks(&folder)?, vectors::tracks(&folder)?);
-    let cards = vectors::cards(&folder)?;
+    let (cards, walks) = (vectors::cards(&folder)?, vectors::walk::walks(&folder)?);
 
     println!("seed: {seed}");
     let mut calls = Calls::new(seed);
@@ -65,6 +65,8 @@ fn run() -> Result<bool, String> {
     calls.tally.end_group("vectors of tracks");
     published::run_cards(&mut calls, &cards);
     calls.tally.end_group("vectors of cards");
+    published::run_walks(&mut calls, &walks);
+    calls.tally.end_group("vectors of walks");
     for (name, group) in GROUPS {
         group(&mut calls, &mut random);
         calls.tally.end_group(name);

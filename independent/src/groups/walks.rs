@@ -16,7 +16,7 @@ use crate::reference::walk::PLACES;
 use kinds::Kinds;
 use replies::Manner;
 
-const WALKS: usize = 400;
+const WALKS: usize = 240;
 const RECORDS: usize = 10_000;
 const SLOTS_EACH: usize = 24;
 

@@ -1,10 +1,27 @@
 //! A field: a walk and cards, with nothing but bytes between them.
 
-use super::card::{frame, mark, Card, Said};
+use super::card::{frame, mark, Card, Mode, Said};
 use super::walk::{Heard, Sent, Walk};
 
-/// A card's lent memory and locks, and its room: enough for the least shape.
+/// Room enough for a card of the least shape, and for a request.
 const ROOM: usize = 32;
+
+/// A Ready card with one block of one byte.
+pub fn card(uid: u64) -> Card {
+    Card {
+        uid: uid.to_le_bytes(),
+        blocks: 1,
+        size: 1,
+        afi: 0,
+        dsfid: 0,
+        afi_locked: false,
+        dsfid_locked: false,
+        ic: 0,
+        mode: Mode::Ready,
+        sequence: None,
+        held: None,
+    }
+}
 
 /// Plays the walk to its end.
 pub fn play(walk: &mut Walk, cards: &mut [Card], list: &mut [u64]) {
@@ -20,7 +37,7 @@ pub fn play(walk: &mut Walk, cards: &mut [Card], list: &mut [u64]) {
 }
 
 /// One reply is heard whole; more are a clash, also when they are alike.
-fn heard(cards: &mut [Card], sent: &Sent) -> Heard {
+pub fn heard(cards: &mut [Card], sent: &Sent) -> Heard {
     let replies: Vec<Vec<u8>> = cards.iter_mut().filter_map(|card| reply(card, sent)).collect();
     match &replies[..] {
         [] => Heard::Silence,

@@ -3,28 +3,12 @@
 use std::collections::BTreeSet;
 
 use super::bench::{bench, Verdict};
-use super::card::{Card, Mode};
-use super::field::play;
+use super::card::Card;
+use super::field::{card, play};
 use super::tails::{is_complete, rounds};
 use super::walk::{Ending, Walk, PLACES};
 use crate::crowds::{self, CROWDS};
 use crate::random::Random;
-
-fn card(uid: u64) -> Card {
-    Card {
-        uid: uid.to_le_bytes(),
-        blocks: 1,
-        size: 1,
-        afi: 0,
-        dsfid: 0,
-        afi_locked: false,
-        dsfid_locked: false,
-        ic: 0,
-        mode: Mode::Ready,
-        sequence: None,
-        held: None,
-    }
-}
 
 /// By the walk and the cards.
 fn played(uids: &[u64]) -> Verdict {

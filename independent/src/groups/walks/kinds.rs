@@ -39,6 +39,7 @@ const ASKED: [&str; 9] = [
     "request of family 00",
 ];
 
+const SLOTS: &str = "slots heard";
 const OPENED: &str = "level opened";
 const MEANT: &str = "silence, clash, clean UID at each level";
 const REQUESTED: &str = "request at each level, with and without family";
@@ -73,6 +74,7 @@ impl Kinds {
                 counts.expect_cell(CAUSES, format!("{number}, {cause}, {way}"));
             }
         }
+        counts.expect(SLOTS);
         counts.expect("opened at the own level");
         counts.expect("opened at a level before");
         for level in 0..LEVELS {
@@ -124,6 +126,7 @@ impl Kinds {
         if outcome.is_err() {
             return;
         }
+        self.0.row(SLOTS);
         self.0.row(&format!("heard {name}"));
         let kind = match walk.meaning(heard) {
             Meaning::Silence => "silence",
