@@ -36,7 +36,7 @@ impl Calls {
         Calls {
             tally: Tally::default(),
             null_when_empty: false,
-            decoder: Decoder::new(),
+            decoder: Decoder::default(),
             noise: Noise::new(seed),
             input: Area::new(32),
             sealing: Area::new(32),

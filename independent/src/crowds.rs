@@ -18,11 +18,12 @@ pub const CROWDS: [(&str, Crowd); 8] = [
     ("worst", worst),
 ];
 
-/// A field of a random kind with at most so many UIDs.
-pub fn any(random: &mut Random, most: usize) -> Vec<u64> {
-    let (_, crowd) = random.pick(&CROWDS);
-    let count = random.below(most + 1);
-    crowd(random, count)
+/// A field of a random kind with at most so many UIDs, and the kind's name.
+pub fn any(random: &mut Random, most: usize) -> (&'static str, Vec<u64>) {
+    let (name, crowd) = random.pick(&CROWDS);
+    let other = random.below(most + 1);
+    let count = random.pick(&[0, 1, 2, most, other, other, other, other, other, other]);
+    (name, crowd(random, count.min(most)))
 }
 
 pub fn shuffle<T>(random: &mut Random, row: &mut [T]) {

@@ -35,7 +35,7 @@ pub fn run_checks(calls: &mut Calls, cases: &[CheckCase]) {
 }
 
 pub fn run_tracks(calls: &mut Calls, cases: &[TrackCase]) {
-    let decoder = Decoder::new();
+    let decoder = Decoder::default();
     for case in cases {
         if let (Some(coding), Side::Bytes(frame)) = (case.coding, &case.frame) {
             let said = code(frame, coding, usize::MAX);

@@ -26,14 +26,16 @@ const KINDS: [Kind; 24] = [
     ("last 0A missing", |random| without_last(lines(&field(random, 101)))),
     ("a hundred lines, last 0A missing", |random| without_last(lines(&crowd(random, 100)))),
     ("empty line", |random| with_line(random, |_, line| line.clear())),
-    ("lower case", |random| with_line(random, lower_case)),
-    ("15 digits", |random| with_line(random, |random, line| cut_one(random, line))),
+    ("lower case", |random| with_line(random, |random, line| lower_case(random, line))),
+    ("15 digits", |random| with_line(random, cut_one)),
     ("17 digits", |random| with_line(random, |random, line| put_one(random, line, b'0'))),
     ("a space more", |random| with_line(random, |random, line| put_one(random, line, b' '))),
     ("a space for a digit", |random| with_line(random, |random, line| turn(random, line, b' '))),
     ("0D before 0A", |random| with_line(random, |_, line| line.push(b'\r'))),
     ("0D for every 0A", |random| with_0d(lines(&field(random, 101)))),
-    ("another byte for a digit", |random| with_line(random, other_byte)),
+    ("another byte for a digit", |random| {
+        with_line(random, |random, line| other_byte(random, line))
+    }),
     ("a digit for 0A", joined),
     ("line 101", line_101),
     ("two bad lines", two_bad),
@@ -132,7 +134,7 @@ fn ended(random: &mut Random, rows: Vec<Vec<u8>>) -> Vec<u8> {
     input
 }
 
-fn lower_case(random: &mut Random, line: &mut Vec<u8>) {
+fn lower_case(random: &mut Random, line: &mut [u8]) {
     let place = random.below(line.len());
     line[place] = random.pick(b"ABCDEF");
     match random.once_in(2) {
@@ -157,7 +159,7 @@ fn turn(random: &mut Random, line: &mut [u8], byte: u8) {
 }
 
 /// Neighbours of the digits among them.
-fn other_byte(random: &mut Random, line: &mut Vec<u8>) {
+fn other_byte(random: &mut Random, line: &mut [u8]) {
     let any = random.byte() | 0x80;
     let byte = random.pick(&[b'/', b':', b'@', b'G', b'`', b'g', b'\t', 0x00, 0x7F, 0x0B, any]);
     turn(random, line, byte);
@@ -191,7 +193,7 @@ fn line_101(random: &mut Random) -> Vec<u8> {
 }
 
 fn two_bad(random: &mut Random) -> Vec<u8> {
-    let mut input = with_line(random, other_byte);
+    let mut input = with_line(random, |random, line| other_byte(random, line));
     if input.last() != Some(&b'\n') {
         input.push(b'\n');
     }

@@ -22,7 +22,7 @@ const PLACE: usize = size_of::<u64>();
 impl Lent<'_> {
     fn aligned(&self) -> *mut u64 {
         let start: *mut u64 = self.start.cast();
-        assert!(start.is_aligned() && self.length % PLACE == 0);
+        assert!(start.is_aligned() && self.length.is_multiple_of(PLACE));
         start
     }
 }

@@ -8,6 +8,7 @@ use crate::calls::Calls;
 use crate::crowds::{shuffle, with_digit, CROWDS};
 use crate::groups::counts::Counts;
 use crate::random::Random;
+use crate::reference::walk::PLACES;
 use built::{Built, BuiltCard, NO_FAMILY, QUIET, READY, SELECTED};
 
 const FIELDS: usize = 20_000;
@@ -45,11 +46,18 @@ fn any(random: &mut Random) -> Built {
     };
     let (_, crowd) = random.pick(&CROWDS);
     let mut uids = crowd(random, count);
-    // Crowds of many cards are seldom without twins.
-    if random.once_in(4) {
-        uids.sort();
-        uids.dedup();
-        shuffle(random, &mut uids);
+    // Without twins, or with few.
+    match random.below(8) {
+        0 | 1 => {
+            uids.sort();
+            uids.dedup();
+            shuffle(random, &mut uids);
+        }
+        2 | 3 if count > PLACES => {
+            let (one, other) = (random.below(uids.len()), random.below(uids.len()));
+            uids[one] = uids[other];
+        }
+        _ => {}
     }
 
     let afis = [random.byte() | 1, random.byte() & !1, 0];

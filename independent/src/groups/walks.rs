@@ -47,7 +47,8 @@ pub fn run(calls: &mut Calls, random: &mut Random) {
 }
 
 fn from_start(calls: &mut Calls, random: &mut Random, kinds: &mut Kinds, manner: Manner) {
-    let uids = crowds::any(random, crowds::MOST);
+    let (name, uids) = crowds::any(random, crowds::MOST);
+    kinds.field(name, uids.len());
     let mut reader = Reader { record: random.bytes(RECORD), list: list(random) };
     calls.walk_start(&mut reader.record, records::family(random));
     while slot(calls, random, kinds, &mut reader, &uids, manner) {}
@@ -64,7 +65,7 @@ fn from_record(calls: &mut Calls, random: &mut Random, kinds: &mut Kinds) {
     let manner = Manner::FalseOnceIn(random.pick(&[1, 2, 4]));
     let slots = 1 + random.below(SLOTS_EACH);
     for _ in 0..slots {
-        let uids = crowds::any(random, 3);
+        let (_, uids) = crowds::any(random, 3);
         if !slot(calls, random, kinds, &mut reader, &uids, manner) {
             break;
         }

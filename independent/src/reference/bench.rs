@@ -1,7 +1,7 @@
 //! The bench as a program from input to output. It has neither walk record nor
 //! cards: it takes the field apart by tails, a round within a round.
 
-use std::io::{self, Read};
+use std::io::{self, BufRead};
 
 use super::walk::{Ending, LEVELS, PLACES, ROUNDS};
 
@@ -9,7 +9,7 @@ pub const CARDS: usize = 100;
 const DIGITS: &[u8; 16] = b"0123456789ABCDEF";
 
 /// What the bench prints.
-pub fn bench(input: &mut impl Read) -> io::Result<String> {
+pub fn bench(input: impl BufRead) -> io::Result<String> {
     Ok(match uids(input)? {
         Ok(uids) => Verdict::of(&uids).text(),
         Err(line) => format!("bad line {line}\n"),
@@ -18,7 +18,7 @@ pub fn bench(input: &mut impl Read) -> io::Result<String> {
 
 /// The input's UIDs, or the number of the first wrong line. Reads no byte more
 /// than it takes to tell.
-fn uids(input: &mut impl Read) -> io::Result<Result<Vec<u64>, usize>> {
+fn uids(input: impl BufRead) -> io::Result<Result<Vec<u64>, usize>> {
     let mut uids = Vec::new();
     let mut line = Vec::new();
     for byte in input.bytes() {

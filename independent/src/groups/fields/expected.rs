@@ -1,15 +1,18 @@
-//! What must be found after a field's walk, from its list of UIDs alone.
+//! What must be found after a field's walk, from its list of UIDs alone: by sets
+//! and counts, and by the field taken apart as the reference's bench does it.
 
 use std::collections::BTreeMap;
 
 use super::built::{Built, BuiltCard, NO_FAMILY, QUIET, SELECTED};
 use crate::groups::counts::Counts;
+use crate::reference::bench::Verdict;
 use crate::reference::tails::{all_differ, is_complete, rounds};
-use crate::reference::walk::PLACES;
+use crate::reference::walk::{Ending, PLACES};
 
 const COMPLETE: u8 = 1;
 const TWINS: u8 = 2;
 const FULL: u8 = 3;
+const OVERRUN: u8 = 4;
 
 const KINDS: [&str; 19] = [
     "complete, nobody answers",
@@ -70,6 +73,14 @@ pub fn fault(before: &Built, after: &Built, counts: &mut Counts) -> Option<Strin
     }
     let single = listed.iter().all(|uid| times.get(uid) == Some(&1)) && all_differ(&listed);
     let complete = ending == COMPLETE;
+    let verdict = Verdict::of(&answering);
+    let number = match verdict.ending {
+        Ending::Complete => COMPLETE,
+        Ending::Twins => TWINS,
+        Ending::Full => FULL,
+        Ending::Overrun => OVERRUN,
+    };
+    let same = (ending, met, &listed) == (number, verdict.rounds.into(), &verdict.list);
     let wrong = [
         (!right, "ending"),
         (complete && met != rounds(&answering), "rounds"),
@@ -77,6 +88,7 @@ pub fn fault(before: &Built, after: &Built, counts: &mut Counts) -> Option<Strin
         (complete && listed.len() != answering.len(), "list is short"),
         (ending == FULL && listed.len() != PLACES, "full with places left"),
         (!single, "list"),
+        (!same, "ending, rounds or order of the list"),
         (!before.list.0.ends_with(rest), "list past its end"),
         (after.record.0[42..44] != family.to_le_bytes(), "family"),
         (!cards_are_right(before, after), "card after the walk"),

@@ -2,8 +2,11 @@
 
 use super::refusals::{CLAUSES, ENDINGS, HEARINGS, LISTS};
 use super::replies::{FALSE, TRUE};
+use crate::crowds::{CROWDS, MOST};
 use crate::groups::counts::Counts;
-use crate::reference::walk::{Ending, Heard, Meaning, Sent, Walk, LAST_SLOT, LEVELS, ROUNDS};
+use crate::reference::walk::{
+    Ending, Heard, Meaning, Sent, Walk, LAST_SLOT, LEVELS, PLACES, ROUNDS,
+};
 use crate::reference::Refusal;
 use crate::tally::Tally;
 
@@ -39,6 +42,7 @@ const ASKED: [&str; 9] = [
     "request of family 00",
 ];
 
+const SIZES: [&str; 4] = ["no cards", "1 to 64 cards", "65 to 99 cards", "100 cards"];
 const SLOTS: &str = "slots heard";
 const OPENED: &str = "level opened";
 const MEANT: &str = "silence, clash, clean UID at each level";
@@ -74,6 +78,12 @@ impl Kinds {
                 counts.expect_cell(CAUSES, format!("{number}, {cause}, {way}"));
             }
         }
+        for (name, _) in CROWDS {
+            counts.expect(format!("field, {name}"));
+        }
+        for size in SIZES {
+            counts.expect(format!("field of {size}"));
+        }
         counts.expect(SLOTS);
         counts.expect("opened at the own level");
         counts.expect("opened at a level before");
@@ -89,6 +99,18 @@ impl Kinds {
             }
         }
         Kinds(counts)
+    }
+
+    /// A walk starts in a field of this kind with so many cards.
+    pub fn field(&mut self, name: &str, cards: usize) {
+        self.0.row(&format!("field, {name}"));
+        let size = match cards {
+            0 => SIZES[0],
+            1..=PLACES => SIZES[1],
+            MOST => SIZES[3],
+            _ => SIZES[2],
+        };
+        self.0.row(&format!("field of {size}"));
     }
 
     pub fn asked(&mut self, walk: &Walk, room: usize, outcome: &Result<Sent, Refusal>) {

@@ -90,6 +90,8 @@ pub fn asking(calls: &mut Calls, random: &mut Random, kinds: &mut Kinds, record:
     let mut record = running(random, record);
     let clause = random.pick(&CLAUSES);
     break_clause(random, clause, &mut record);
+    // An ended walk is looked at too.
+    record[47] = random.pick(&[0, 0, 1, 2, 3, 4, 255]);
     let short = random.once_in(2);
     let room = if short { random.below(14) } else { 14 + random.below(30) };
     let cause = if short { "before 8" } else { clause };
