@@ -35,8 +35,8 @@ pub fn read(record: &[u8]) -> Result<Walk, Refusal> {
         .chunks(2)
         .map(|mark| mark.iter().flat_map(|&byte| bits_of(byte)).collect())
         .collect();
-    let none_below = level.min(LEVELS - 2);
-    if marks[none_below + 1..].iter().flatten().any(|&waits| waits) {
+    let deepest = level.min(LEVELS - 2);
+    if marks[deepest + 1..].iter().flatten().any(|&waits| waits) {
         return Err(Refusal::Walk);
     }
     let slots = |mark: &Vec<bool>| (0..=LAST_SLOT).filter(|&s| mark[usize::from(s)]).collect();
