@@ -3,7 +3,11 @@
 mod cards;
 mod checks;
 mod codings;
+#[cfg(feature = "walk")]
+mod counts;
 mod damaged_tracks;
+#[cfg(feature = "walk")]
+mod fields;
 mod garbage_tracks;
 mod null_buffers;
 mod random_frames;
@@ -11,6 +15,8 @@ mod sealing;
 mod short_tracks;
 mod small_frames;
 mod soundness;
+#[cfg(feature = "walk")]
+mod walks;
 
 use crate::calls::Calls;
 use crate::random::Random;
@@ -29,6 +35,10 @@ pub const GROUPS: &[(&str, Group)] = &[
     ("checks", checks::run),
     ("null buffers", null_buffers::run),
     ("cards", cards::run),
+    #[cfg(feature = "walk")]
+    ("walks", walks::run),
+    #[cfg(feature = "walk")]
+    ("fields", fields::run),
 ];
 
 /// Bytes that tracks are made of, and some that almost are.
