@@ -1,7 +1,6 @@
 //! The functions of the C header, as the archive exports them.
 
 pub mod card;
-#[cfg(feature = "walk")]
 pub mod walk;
 
 use std::marker::PhantomData;

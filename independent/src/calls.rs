@@ -2,7 +2,6 @@
 //! every byte of every lent buffer and its guards.
 
 mod card;
-#[cfg(feature = "walk")]
 mod walk;
 
 use std::ops::Range;
@@ -27,7 +26,6 @@ pub struct Calls {
     coding: Area,
     decoding: Area,
     card: card::Areas,
-    #[cfg(feature = "walk")]
     walk: walk::Areas,
 }
 
@@ -44,7 +42,6 @@ impl Calls {
             coding: Area::new(4200),
             decoding: Area::new(1100),
             card: card::Areas::new(),
-            #[cfg(feature = "walk")]
             walk: walk::Areas::new(),
         }
     }

@@ -3,10 +3,8 @@
 mod cards;
 mod checks;
 mod codings;
-#[cfg(feature = "walk")]
 mod counts;
 mod damaged_tracks;
-#[cfg(feature = "walk")]
 mod fields;
 mod garbage_tracks;
 mod null_buffers;
@@ -15,7 +13,6 @@ mod sealing;
 mod short_tracks;
 mod small_frames;
 mod soundness;
-#[cfg(feature = "walk")]
 mod walks;
 
 use crate::calls::Calls;
@@ -35,9 +32,7 @@ pub const GROUPS: &[(&str, Group)] = &[
     ("checks", checks::run),
     ("null buffers", null_buffers::run),
     ("cards", cards::run),
-    #[cfg(feature = "walk")]
     ("walks", walks::run),
-    #[cfg(feature = "walk")]
     ("fields", fields::run),
 ];
 

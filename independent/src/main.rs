@@ -26,7 +26,6 @@ use std::process::ExitCode;
 
 use calls::Calls;
 use groups::GROUPS;
-#[cfg(feature = "walk")]
 use independent::crowds;
 use independent::{random, reference};
 use random::Random;

@@ -6,8 +6,6 @@ use crate::reference::bench::Verdict;
 use crate::reference::card::Card;
 use crate::reference::field::{card, heard};
 use crate::reference::walk::record::{read, RECORD};
-#[cfg(not(feature = "walk"))]
-use crate::reference::walk::{record, Walk};
 use crate::reference::walk::{Heard, Sent, PLACES};
 use crate::reference::Refusal;
 use crate::vectors::walk::{End, WalkStep};
@@ -58,8 +56,7 @@ impl Reader {
     }
 }
 
-/// By the reference, and by a board that has the calls.
-#[cfg(feature = "walk")]
+/// By the reference and by the board.
 impl Reader {
     fn start(calls: &mut Calls, family: u16) -> Reader {
         let mut record = vec![0xA5; RECORD];
@@ -73,22 +70,5 @@ impl Reader {
 
     fn ask(&self, calls: &mut Calls) -> Result<Sent, Refusal> {
         calls.walk_ask(&self.record, 14)
-    }
-}
-
-#[cfg(not(feature = "walk"))]
-impl Reader {
-    fn start(_: &mut Calls, family: u16) -> Reader {
-        let mut record = vec![0xA5; RECORD];
-        record::write(&Walk::start(family), &mut record);
-        Reader { record, list: vec![0; PLACES] }
-    }
-
-    fn hear(&mut self, _: &mut Calls, heard: &Heard) -> Result<(), Refusal> {
-        record::hear(heard, &mut self.record, &mut self.list)
-    }
-
-    fn ask(&self, _: &mut Calls) -> Result<Sent, Refusal> {
-        record::ask(&self.record, 14)
     }
 }
