@@ -73,3 +73,39 @@ fn bad_lines() {
     assert_eq!(said(&[&hundred, "\n"].concat()), "bad line 101\n");
     assert_eq!(said(&[&hundred, "0"].concat()), "bad line 101\n");
 }
+
+/// What a walk that ends complete says: its list and its rounds.
+type Said = (Vec<u64>, usize);
+
+/// Whether that is what demand 3 asks of a field in which these answer.
+fn meets_demand_3(uids: &[u64], (list, said): &Said) -> bool {
+    let mut listed = list.clone();
+    let mut all = uids.to_vec();
+    listed.sort_unstable();
+    all.sort_unstable();
+    is_complete(uids) && listed == all && *said == rounds(uids)
+}
+
+fn does_nothing(_: &[u64]) -> Said {
+    (Vec::new(), 1)
+}
+
+/// Lists who is alone in a slot of the first round, and calls that all.
+fn sends_one_round(uids: &[u64]) -> Said {
+    let alone = |uid: &u64| uids.iter().filter(|other| *other % 16 == uid % 16).count() == 1;
+    (uids.iter().copied().filter(alone).collect(), 1)
+}
+
+fn invents_its_rounds(uids: &[u64]) -> Said {
+    (uids.to_vec(), 1 + uids.len())
+}
+
+#[test]
+fn useless_walks_break_demand_3() {
+    let field = [0xE004010000000011, 0xE004010000000021, 0xE004010000000005];
+    let right = (field.to_vec(), 2);
+    assert!(meets_demand_3(&field, &right));
+    for useless in [does_nothing, sends_one_round, invents_its_rounds] {
+        assert!(!meets_demand_3(&field, &useless(&field)));
+    }
+}
