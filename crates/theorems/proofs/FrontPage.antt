@@ -66,6 +66,7 @@ use Rattle.field.specs.Replies.{anyReplies}
 use Rattle.field.specs.Demand.{demand3}
 use Rattle.field.proofs.AnyWalk.{judged-fits, walk-of-any-replies}
 use Rattle.field.proofs.Demand3.{walk-of-a-field}
+use Rattle.field.proofs.Examples.{FieldOfThree, field-of-three}
 
 -- ---- The check
 
@@ -246,6 +247,7 @@ record Examples : Type 0 where
   of-reads : BlockReads
   of-information : Information
   of-walks : Walks
+  of-three : FieldOfThree
 
 examples : Examples
 examples =
@@ -256,4 +258,5 @@ examples =
       of-reads = block-reads;
       of-information = information-shown;
       of-walks = walks;
+      of-three = field-of-three;
     }
