@@ -121,9 +121,9 @@ int64_t ek_decode(const uint8_t *track, size_t length, uint8_t *frame,
  * come to are refused with EK_REFUSED_WALK and are left as they are.
  */
 struct ek_walk {
-    uint64_t mask;      /* the digits opened so far: the low 4 * level bits */
     uint16_t marks[16]; /* for each level: bit s is set while slot s clashed
                            there and waits to be opened */
+    uint64_t mask;      /* the digits opened so far: the low 4 * level bits */
     uint16_t rounds;    /* the rounds begun, 1 to EK_WALK_ROUNDS_MAX */
     uint16_t family;    /* 0 to 255: an AFI; all else: no family */
     uint8_t level;      /* the digits of the mask, 0 to 15 */
