@@ -1,7 +1,9 @@
 /*
  * The library's walk in place beside the same in plain C: a slot heard, and
- * what to send. Both first go through many fields side by side and must never
- * differ. The script run makes a table of what is printed here.
+ * what to send. Plain C is of the library's form, the walk by value; the rows
+ * with "direct" have C that changes every field through the pointer. All first
+ * go through many fields side by side and must never differ. The script run
+ * makes a table of what is printed here.
  */
 #include <stdbool.h>
 #include <stdio.h>
@@ -35,6 +37,9 @@ static const struct side OURS = {ek_walk_start, ek_walk_hear_silence,
 static const struct side PLAIN = {plain_walk_start, plain_walk_hear_silence,
                                   plain_walk_hear_clash, plain_walk_hear_bytes,
                                   plain_walk_ask};
+static const struct side DIRECT = {
+    plain_walk_start, direct_walk_hear_silence, direct_walk_hear_clash,
+    direct_walk_hear_bytes, plain_walk_ask};
 
 enum heard { SILENCE, CLASH, BYTES };
 
@@ -115,7 +120,7 @@ static enum heard field(const uint64_t *cards, unsigned count,
     return answering == 0 ? SILENCE : answering == 1 ? BYTES : CLASH;
 }
 
-static void compare_walks(void)
+static void compare_walks(const struct side *other)
 {
     static uint64_t cards[CARDS_MAX];
     static struct state ours, plain;
@@ -128,29 +133,29 @@ static void compare_walks(void)
             cards[i] = random64() & spread;
         }
         OURS.start(&ours.walk, (uint16_t)(f % 300));
-        PLAIN.start(&plain.walk, (uint16_t)(f % 300));
+        other->start(&plain.walk, (uint16_t)(f % 300));
         for (unsigned step = 0; ours.walk.ending == EK_WALK_RUNNING; step++) {
             size_t room = step % 8 == 7 ? EK_REQUEST_MAX - 1 : EK_REQUEST_MAX;
             same(OURS.ask(&ours.walk, ours.room, room),
-                 PLAIN.ask(&plain.walk, plain.room, room), &ours, &plain);
+                 other->ask(&plain.walk, plain.room, room), &ours, &plain);
             enum heard what =
                 field(cards, count, &ours.walk, answer, &length);
             size_t places = step % 32 == 31 ? EK_LIST_PLACES - 1
                                             : EK_LIST_PLACES;
             same(hear(&OURS, &ours, what, answer, length, places),
-                 hear(&PLAIN, &plain, what, answer, length, places), &ours,
+                 hear(other, &plain, what, answer, length, places), &ours,
                  &plain);
         }
         /* an ended walk, and a record with one byte turned */
         same(OURS.ask(&ours.walk, ours.room, EK_REQUEST_MAX),
-             PLAIN.ask(&plain.walk, plain.room, EK_REQUEST_MAX), &ours, &plain);
+             other->ask(&plain.walk, plain.room, EK_REQUEST_MAX), &ours, &plain);
         uint8_t *byte = (uint8_t *)&ours.walk + random64() % sizeof ours.walk;
         *byte ^= (uint8_t)(1u << random64() % 8);
         plain.walk = ours.walk;
         same(OURS.ask(&ours.walk, ours.room, EK_REQUEST_MAX),
-             PLAIN.ask(&plain.walk, plain.room, EK_REQUEST_MAX), &ours, &plain);
+             other->ask(&plain.walk, plain.room, EK_REQUEST_MAX), &ours, &plain);
         same(hear(&OURS, &ours, CLASH, answer, 0, EK_LIST_PLACES),
-             hear(&PLAIN, &plain, CLASH, answer, 0, EK_LIST_PLACES), &ours,
+             hear(other, &plain, CLASH, answer, 0, EK_LIST_PLACES), &ours,
              &plain);
     }
 }
@@ -161,6 +166,7 @@ enum task { ROUND, TURN, ASK };
 
 struct row {
     const char *name;
+    const struct side *beside;
     enum task task;
     enum heard heard;
     uint8_t level;
@@ -168,12 +174,16 @@ struct row {
 };
 
 static const struct row ROWS[] = {
-    {"walk, a silent slot", ROUND, SILENCE, 7, 0},
-    {"walk, a clash", ROUND, CLASH, 7, 0},
-    {"walk, a clean reply", ROUND, BYTES, 7, 0},
-    {"walk, slot 15, next round", TURN, SILENCE, 7, 15},
-    {"walk, ask for a request", ASK, SILENCE, 7, 0},
-    {"walk, ask for a slot mark", ASK, SILENCE, 7, 1},
+    {"walk, silent slot", &PLAIN, ROUND, SILENCE, 7, 0},
+    {"walk, clash", &PLAIN, ROUND, CLASH, 7, 0},
+    {"walk, clean reply", &PLAIN, ROUND, BYTES, 7, 0},
+    {"walk, slot 15, next round", &PLAIN, TURN, SILENCE, 7, 15},
+    {"walk, request", &PLAIN, ASK, SILENCE, 7, 0},
+    {"walk, slot mark", &PLAIN, ASK, SILENCE, 7, 1},
+    {"direct, silent slot", &DIRECT, ROUND, SILENCE, 7, 0},
+    {"direct, clash", &DIRECT, ROUND, CLASH, 7, 0},
+    {"direct, clean reply", &DIRECT, ROUND, BYTES, 7, 0},
+    {"direct, slot 15, next round", &DIRECT, TURN, SILENCE, 7, 15},
 };
 #define ROW_COUNT (sizeof ROWS / sizeof ROWS[0])
 
@@ -235,7 +245,7 @@ static unsigned passes_for(const struct row *row)
 {
     unsigned count = 1;
     while (turn(&OURS, row, count) < TURN_NS ||
-           turn(&PLAIN, row, count) < TURN_NS) {
+           turn(row->beside, row, count) < TURN_NS) {
         count *= 2;
     }
     return count;
@@ -253,9 +263,9 @@ static void measure(void)
             prepare(&ROWS[i]);
             if (round % 2 == 0) {
                 ours[i][round] = turn(&OURS, &ROWS[i], passes[i]);
-                plain[i][round] = turn(&PLAIN, &ROWS[i], passes[i]);
+                plain[i][round] = turn(ROWS[i].beside, &ROWS[i], passes[i]);
             } else {
-                plain[i][round] = turn(&PLAIN, &ROWS[i], passes[i]);
+                plain[i][round] = turn(ROWS[i].beside, &ROWS[i], passes[i]);
                 ours[i][round] = turn(&OURS, &ROWS[i], passes[i]);
             }
         }
@@ -264,7 +274,8 @@ static void measure(void)
 
 int main(void)
 {
-    compare_walks();
+    compare_walks(&PLAIN);
+    compare_walks(&DIRECT);
     measure();
     for (size_t i = 0; i < ROW_COUNT; i++) {
         double calls = (double)passes[i] * STEPS;

@@ -216,13 +216,14 @@ int64_t ek_card_power_off(uint8_t *record, size_t record_length,
  *     }
  *
  * The record has no hidden part: it may be copied, kept and read at any time.
+ * Its pointer is never NULL, and it overlaps no buffer of the same call.
  * Every value of every field has a meaning; records that a walk can't have
  * come to are refused with EK_REFUSED_WALK and are left as they are.
  */
 struct ek_walk {
-    uint64_t mask;      /* the digits opened so far: the low 4 * level bits */
     uint16_t marks[16]; /* for each level: bit s is set while slot s clashed
                            there and waits to be opened */
+    uint64_t mask;      /* the digits opened so far: the low 4 * level bits */
     uint16_t rounds;    /* the rounds begun, 1 to EK_WALK_ROUNDS_MAX */
     uint16_t family;    /* 0 to 255: an AFI; all else: no family */
     uint8_t level;      /* the digits of the mask, 0 to 15 */
@@ -236,8 +237,8 @@ typedef char ek_walk_has_48_bytes[sizeof(struct ek_walk) == 48 ? 1 : -1];
 
 /* The walk's endings, and 0 as long as it runs. */
 #define EK_WALK_RUNNING 0
-#define EK_WALK_COMPLETE 1 /* no clash waits: every tag is listed */
-#define EK_WALK_TWINS 2    /* a clash below 15 digits: two UIDs alike */
+#define EK_WALK_COMPLETE 1 /* no clash waits */
+#define EK_WALK_TWINS 2    /* a clash at level 15, as of two UIDs alike */
 #define EK_WALK_FULL 3     /* a UID with EK_LIST_PLACES listed */
 #define EK_WALK_OVERRUN 4  /* a round over EK_WALK_ROUNDS_MAX was needed */
 

@@ -26,12 +26,12 @@ pub fn read(record: &[u8]) -> Result<Walk, Refusal> {
     if level >= LEVELS || slot > LAST_SLOT || listed > PLACES || rounds == 0 || rounds > ROUNDS {
         return Err(Refusal::Walk);
     }
-    let digits = digits_of(&record[..8]);
+    let digits = digits_of(&record[32..40]);
     let (mask, above) = digits.split_at(level);
     if above.iter().any(|&digit| digit > 0) {
         return Err(Refusal::Walk);
     }
-    let marks: Vec<Vec<bool>> = record[8..40]
+    let marks: Vec<Vec<bool>> = record[..32]
         .chunks(2)
         .map(|mark| mark.iter().flat_map(|&byte| bits_of(byte)).collect())
         .collect();
@@ -59,9 +59,9 @@ pub fn read(record: &[u8]) -> Result<Walk, Refusal> {
 
 pub fn write(walk: &Walk, record: &mut [u8]) {
     let mask = bytes_of(&walk.mask);
-    record[..8].fill(0);
-    record[..mask.len()].copy_from_slice(&mask);
-    for (mark, slots) in record[8..40].chunks_mut(2).zip(&walk.waiting) {
+    record[32..40].fill(0);
+    record[32..32 + mask.len()].copy_from_slice(&mask);
+    for (mark, slots) in record[..32].chunks_mut(2).zip(&walk.waiting) {
         let waits: Vec<bool> = (0..=LAST_SLOT).map(|slot| slots.contains(&slot)).collect();
         mark.copy_from_slice(&[byte_of(&waits[..8]), byte_of(&waits[8..])]);
     }
