@@ -108,7 +108,7 @@ fn cards_are_right(before: &Built, after: &Built) -> bool {
         record[32..].fill(0);
         if takes_part(old, before.family) {
             record[22..25].copy_from_slice(&[1, slot, 4 * level]);
-            record[32..].copy_from_slice(&after.record.0[..8]);
+            record[32..].copy_from_slice(&after.record.0[32..40]);
         }
         *new == expected
     })

@@ -125,13 +125,13 @@ fn break_clause(random: &mut Random, clause: &str, record: &mut [u8]) {
         "mask bits above its length" => {
             let length = 4 * usize::from(record[44]);
             let bit = random.pick(&[length, 63, length + usize::from(high) % (64 - length)]);
-            record[bit / 8] |= 1 << (bit % 8);
+            record[32 + bit / 8] |= 1 << (bit % 8);
         }
         "mark at a deeper level" => {
             let level = usize::from(record[44]).min(random.below(14));
             record[44] = level as u8;
-            record[..8].fill(0);
-            record[10 + 2 * level..40].fill(0);
+            record[32..40].fill(0);
+            record[2 + 2 * level..32].fill(0);
             let deeper = level + 1 + random.below(14 - level);
             mark(random, record, deeper);
         }
@@ -144,5 +144,5 @@ fn break_clause(random: &mut Random, clause: &str, record: &mut [u8]) {
 }
 
 fn mark(random: &mut Random, record: &mut [u8], level: usize) {
-    record[8 + 2 * level + random.below(2)] |= 1 << random.below(8);
+    record[2 * level + random.below(2)] |= 1 << random.below(8);
 }
