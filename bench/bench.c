@@ -4,22 +4,16 @@
  * is the median of many rounds. The script run makes a table of what is printed
  * here.
  */
-#define _POSIX_C_SOURCE 199309L
-
 #include <stdio.h>
 #include <stdlib.h>
 #include <string.h>
-#include <time.h>
 
 #include "espenknoten.h"
 #include "plain.h"
 #include "same.h"
+#include "turns.h"
 
 #define FRAMES 8
-#define ROUNDS 51
-/* The shortest turn at the clock: a coarse clock or one interrupt must not
- * weigh much in it. */
-#define TURN_NS 1e6
 
 /* The shape of the cards. */
 #define BLOCKS 32
@@ -142,13 +136,6 @@ static void prepare(const struct row *row)
     }
 }
 
-static double now_ns(void)
-{
-    struct timespec t;
-    clock_gettime(CLOCK_MONOTONIC, &t);
-    return (double)t.tv_sec * 1e9 + (double)t.tv_nsec;
-}
-
 /* Nanoseconds for all frames, count times over. */
 static double turn(const struct side *side, const struct row *row,
                    unsigned count)
@@ -191,18 +178,6 @@ static double turn(const struct side *side, const struct row *row,
     double spent = now_ns() - start;
     sink += sum;
     return spent;
-}
-
-static int by_size(const void *a, const void *b)
-{
-    double x = *(const double *)a, y = *(const double *)b;
-    return (x > y) - (x < y);
-}
-
-static double median(double *values)
-{
-    qsort(values, ROUNDS, sizeof values[0], by_size);
-    return values[ROUNDS / 2];
 }
 
 static unsigned passes_for(const struct row *row)

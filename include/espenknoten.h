@@ -198,6 +198,99 @@ int64_t ek_card_power_off(uint8_t *record, size_t record_length,
                           const uint8_t *locks, size_t locks_length,
                           const uint8_t *answer, size_t room);
 
+/*
+ * The walk: an inventory of the tags in the field, slot by slot. The board
+ * keeps one record of it, which these calls change where it stands, and a list
+ * of the UIDs that were found:
+ *
+ *     struct ek_walk walk;
+ *     uint64_t list[EK_LIST_PLACES];
+ *     uint8_t request[EK_REQUEST_MAX];
+ *     ek_walk_start(&walk, EK_WALK_NO_FAMILY);
+ *     for (;;) {
+ *         int64_t n = ek_walk_ask(&walk, request, sizeof request);
+ *         if (n == EK_SEND_NOTHING) break;          ended: see walk.ending
+ *         if (n == EK_SEND_MARK) ..                 send a slot mark
+ *         else ..                                   send n bytes of request
+ *         .. listen, then one of the three calls ek_walk_hear_..
+ *     }
+ *
+ * The record has no hidden part: it may be copied, kept and read at any time.
+ * Its pointer is never NULL, and it overlaps no buffer of the same call.
+ * Every value of every field has a meaning; records that a walk can't have
+ * come to are refused with EK_REFUSED_WALK and are left as they are.
+ */
+struct ek_walk {
+    uint16_t marks[16]; /* for each level: bit s is set while slot s clashed
+                           there and waits to be opened */
+    uint64_t mask;      /* the digits opened so far: the low 4 * level bits */
+    uint16_t rounds;    /* the rounds begun, 1 to EK_WALK_ROUNDS_MAX */
+    uint16_t family;    /* 0 to 255: an AFI; all else: no family */
+    uint8_t level;      /* the digits of the mask, 0 to 15 */
+    uint8_t slot;       /* the slot to be heard next, 0 to 15 */
+    uint8_t count;      /* the UIDs listed, 0 to EK_LIST_PLACES */
+    uint8_t ending;     /* one of EK_WALK_.. below; all else: overrun */
+};
+
+/* The record is 48 bytes, without padding: else this does not compile. */
+typedef char ek_walk_has_48_bytes[sizeof(struct ek_walk) == 48 ? 1 : -1];
+
+/* The walk's endings, and 0 as long as it runs. */
+#define EK_WALK_RUNNING 0
+#define EK_WALK_COMPLETE 1 /* no clash waits */
+#define EK_WALK_TWINS 2    /* a clash at level 15, as of two UIDs alike */
+#define EK_WALK_FULL 3     /* a UID with EK_LIST_PLACES listed */
+#define EK_WALK_OVERRUN 4  /* a round over EK_WALK_ROUNDS_MAX was needed */
+
+#define EK_WALK_NO_FAMILY 256
+#define EK_WALK_ROUNDS_MAX 481
+
+/* The places of the list, and the longest request in bytes. */
+#define EK_LIST_PLACES 64
+#define EK_REQUEST_MAX 14
+
+/* What ek_walk_ask returns where there is no request to send. */
+#define EK_SEND_NOTHING 0
+#define EK_SEND_MARK 1
+
+#define EK_REFUSED_LIST (-5)  /* list of fewer than EK_LIST_PLACES places */
+#define EK_REFUSED_ENDED (-6) /* hearing after an ending */
+#define EK_REFUSED_WALK (-10) /* no record of a walk */
+
+/*
+ * Starts a walk over whatever stands in the record; it is not looked at.
+ * Refuses nothing.
+ */
+void ek_walk_start(struct ek_walk *walk, uint16_t family);
+
+/*
+ * What to send now; it may be asked often, and the record stays as it is. The
+ * length of a request, 5 to EK_REQUEST_MAX, which then stands at the start of
+ * room; or EK_SEND_MARK for a slot mark; or EK_SEND_NOTHING after an ending.
+ * For the last two no byte of room changes.
+ * EK_REFUSED_WALK. EK_REFUSED_ROOM, looked for after that: what to send is a
+ * request, and length is less than EK_REQUEST_MAX, whatever the request needs.
+ */
+int64_t ek_walk_ask(const struct ek_walk *walk, uint8_t *room, size_t length);
+
+/*
+ * The slot is over: nothing was heard, or something that can't be read, or
+ * length bytes. Bytes are a clean reply if they are 12, sealed, begin with 00
+ * and their UID fits the mask and the slot; all else is a clash. Returns 0. The
+ * record is then that of the next slot, or of the next round, or an ending has
+ * been noted in it; the UID of a clean reply stands in list at the place that
+ * walk->count had, and no other place changes. places counts the places of
+ * list, not its bytes; only the first EK_LIST_PLACES are used.
+ * In this order EK_REFUSED_WALK, EK_REFUSED_ENDED, EK_REFUSED_LIST: the record
+ * and the list stay as they are.
+ */
+int64_t ek_walk_hear_silence(struct ek_walk *walk, uint64_t *list,
+                             size_t places);
+int64_t ek_walk_hear_clash(struct ek_walk *walk, uint64_t *list,
+                           size_t places);
+int64_t ek_walk_hear_bytes(struct ek_walk *walk, const uint8_t *bytes,
+                           size_t length, uint64_t *list, size_t places);
+
 #ifdef __cplusplus
 }
 #endif

@@ -2,6 +2,7 @@
 //! every byte of every lent buffer and its guards.
 
 mod card;
+mod walk;
 
 use std::ops::Range;
 
@@ -25,6 +26,7 @@ pub struct Calls {
     coding: Area,
     decoding: Area,
     card: card::Areas,
+    walk: walk::Areas,
 }
 
 impl Calls {
@@ -32,7 +34,7 @@ impl Calls {
         Calls {
             tally: Tally::default(),
             null_when_empty: false,
-            decoder: Decoder::new(),
+            decoder: Decoder::default(),
             noise: Noise::new(seed),
             input: Area::new(32),
             sealing: Area::new(32),
@@ -40,6 +42,7 @@ impl Calls {
             coding: Area::new(4200),
             decoding: Area::new(1100),
             card: card::Areas::new(),
+            walk: walk::Areas::new(),
         }
     }
 

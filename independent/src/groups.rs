@@ -3,7 +3,9 @@
 mod cards;
 mod checks;
 mod codings;
+mod counts;
 mod damaged_tracks;
+mod fields;
 mod garbage_tracks;
 mod null_buffers;
 mod random_frames;
@@ -11,6 +13,7 @@ mod sealing;
 mod short_tracks;
 mod small_frames;
 mod soundness;
+mod walks;
 
 use crate::calls::Calls;
 use crate::random::Random;
@@ -29,6 +32,8 @@ pub const GROUPS: &[(&str, Group)] = &[
     ("checks", checks::run),
     ("null buffers", null_buffers::run),
     ("cards", cards::run),
+    ("walks", walks::run),
+    ("fields", fields::run),
 ];
 
 /// Bytes that tracks are made of, and some that almost are.

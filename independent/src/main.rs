@@ -6,6 +6,8 @@
 //!     --manifest-path independent/Cargo.toml
 //! ```
 //!
+//! With `--features walk` the walk's calls are compared too.
+//!
 //! Takes a seed, in decimal, or none. VECTORS_DIR names the vectors' folder.
 //! Status 0: no difference. 1: some, or a hole. 2: vectors unreadable.
 
@@ -15,8 +17,6 @@ mod calls;
 mod groups;
 mod notation;
 mod published;
-mod random;
-mod reference;
 mod tally;
 mod vectors;
 
@@ -26,6 +26,8 @@ use std::process::ExitCode;
 
 use calls::Calls;
 use groups::GROUPS;
+use independent::crowds;
+use independent::{random, reference};
 use random::Random;
 
 const SEED: u64 = 15693;
@@ -51,7 +53,7 @@ fn run() -> Result<bool, String> {
         None => PathBuf::from(concat!(env!("CARGO_MANIFEST_DIR"), "/../vectors")),
     };
     let (checks, tracks) = (vectors::checks(&folder)?, vectors::tracks(&folder)?);
-    let cards = vectors::cards(&folder)?;
+    let (cards, walks) = (vectors::cards(&folder)?, vectors::walk::walks(&folder)?);
 
     println!("seed: {seed}");
     let mut calls = Calls::new(seed);
@@ -62,6 +64,8 @@ fn run() -> Result<bool, String> {
     calls.tally.end_group("vectors of tracks");
     published::run_cards(&mut calls, &cards);
     calls.tally.end_group("vectors of cards");
+    published::run_walks(&mut calls, &walks);
+    calls.tally.end_group("vectors of walks");
     for (name, group) in GROUPS {
         group(&mut calls, &mut random);
         calls.tally.end_group(name);

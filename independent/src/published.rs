@@ -1,6 +1,8 @@
 //! Runs the vectors. The reference is held against the vector and the board
 //! against the reference, so both must say what the vector says.
 
+mod walk;
+
 use crate::calls::Calls;
 use crate::notation::show;
 use crate::reference::card::Said;
@@ -10,6 +12,7 @@ use crate::reference::decoder::{Decoded, Decoder};
 use crate::reference::record::Tag;
 use crate::reference::{Refusal, FRAME_MAX};
 use crate::vectors::{CardStep, CheckCase, Side, TrackCase};
+pub use walk::run_walks;
 
 pub fn run_checks(calls: &mut Calls, cases: &[CheckCase]) {
     for case in cases {
@@ -32,7 +35,7 @@ pub fn run_checks(calls: &mut Calls, cases: &[CheckCase]) {
 }
 
 pub fn run_tracks(calls: &mut Calls, cases: &[TrackCase]) {
-    let decoder = Decoder::new();
+    let decoder = Decoder::default();
     for case in cases {
         if let (Some(coding), Side::Bytes(frame)) = (case.coding, &case.frame) {
             let said = code(frame, coding, usize::MAX);

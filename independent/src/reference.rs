@@ -1,16 +1,24 @@
-//! The independent implementation: check, sealed frames, coder, decoder, card.
+//! The independent implementation: check, sealed frames, coder, decoder, card,
+//! walk, field and bench.
 //!
 //! Written from the rules page ("Check and byte order", "Pulse tracks", "The
-//! card", "Numbers of refused calls", "Examples") and the C header. It works on
-//! sequences of single bits and single intervals and looks tracks up in a
-//! dictionary, so that it shares no way of working with the library. Clear,
-//! not fast.
+//! card", "The walk", "Numbers of refused calls", "Bench", "Examples") and the
+//! C header. It works on sequences of single bits, digits and intervals, keeps
+//! what waits in sets and looks tracks up in a dictionary, so that it shares no
+//! way of working with the library. Clear, not fast.
 
+pub mod bench;
 pub mod card;
 pub mod check;
 pub mod coder;
 pub mod decoder;
+pub mod field;
 pub mod record;
+pub mod tails;
+pub mod walk;
+
+#[cfg(test)]
+mod tests;
 
 /// The longest frame, in bytes.
 pub const FRAME_MAX: usize = 64;
@@ -22,7 +30,10 @@ pub enum Refusal {
     LentLength = 2,
     LockByte = 3,
     AnswerRoom = 4,
+    List = 5,
+    Ended = 6,
     FrameOrCoding = 7,
     Room = 8,
     NoTrack = 9,
+    Walk = 10,
 }

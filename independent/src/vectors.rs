@@ -1,5 +1,7 @@
 //! Reads the vector files. Their heads say what a line holds.
 
+pub mod walk;
+
 use std::fs;
 use std::path::Path;
 

@@ -6,3 +6,7 @@ pub mod Told
 pub mod Ways
 pub mod RoundTrip
 pub mod Unique
+pub mod Records
+pub mod Numbers
+pub mod WalkTold
+pub mod UniqueWalked

@@ -1,2 +1,3 @@
 pub mod Record
 pub mod Calls
+pub mod Walked

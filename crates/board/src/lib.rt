@@ -1,5 +1,7 @@
-// The functions that the rack board's C firmware calls, each a thin shell with the promise of the one it calls.
+// The functions that the rack board's C firmware calls, each a thin shell with the promise of the one it calls; the card's over the bytes of
+// its record.
 // include/espenknoten.h declares them.
+mod in_place;
 mod record;
 
 ghost use mathlib.Core.Path.{_≡_};
@@ -8,6 +10,7 @@ ghost use Rattle.frames.specs.Frame.{Seals, isSound};
 ghost use Rattle.tracks.specs.Coder.{Codes};
 ghost use Rattle.tracks.specs.Decoder.{Decodes};
 ghost use Rattle.board.specs.Calls.{frameCall, markCall, offCall, Gives};
+use crate::record::LENGTH;
 use crate::record::card_of;
 use crate::record::settle;
 
@@ -56,7 +59,7 @@ pub extern "C" fn ek_card_frame(
 ) -> i64
     ensures { λ r. ⌜ Gives (frameCall (now (bytes .entry)) (now (frame .entry)) (now (memory .entry)) (now (locks .entry)) (now (answer .entry))) r (now (bytes .exit)) (now (memory .exit)) (now (locks .exit)) (now (answer .exit)) ⌝ }
 {
-    if bytes.len() != 40 {
+    if bytes.len() != LENGTH {
         return -1;
     }
     let card = card_of(bytes);
@@ -73,7 +76,7 @@ pub extern "C" fn ek_card_mark(
 ) -> i64
     ensures { λ r. ⌜ Gives (markCall (now (bytes .entry)) (now (memory .entry)) (now (locks .entry)) (now (answer .entry))) r (now (bytes .exit)) (now (memory .entry)) (now (locks .entry)) (now (answer .exit)) ⌝ }
 {
-    if bytes.len() != 40 {
+    if bytes.len() != LENGTH {
         return -1;
     }
     let card = card_of(bytes);
@@ -90,7 +93,7 @@ pub extern "C" fn ek_card_power_off(
 ) -> i64
     ensures { λ r. ⌜ Gives (offCall (now (bytes .entry)) (now (memory .entry)) (now (locks .entry)) (now (answer .entry))) r (now (bytes .exit)) (now (memory .entry)) (now (locks .entry)) (now (answer .entry)) ⌝ }
 {
-    if bytes.len() != 40 {
+    if bytes.len() != LENGTH {
         return -1;
     }
     let card = card_of(bytes);

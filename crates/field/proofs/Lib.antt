@@ -27,6 +27,8 @@ pub mod RowAsked
 pub mod WalkServed
 pub mod PlayedSlot
 pub mod Stages
+pub mod Stood
 pub mod AnyWalk
 pub mod Demand3
+pub mod Examples
 pub mod Answering

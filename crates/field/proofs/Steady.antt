@@ -69,7 +69,7 @@ kept-steady w t rounds slot count ending h =
 
 pub clean-steady : (w : Walk) (t : ℕ) → Steady w t → Steady (counted w) (suc t)
 unfolding counted
-clean-steady w t h = kept-steady w (suc t) (w .rounds) (w .slot) (w .count + 1) (w .ending) (silent-steady w t h)
+clean-steady w t h = kept-steady w (suc t) _ _ _ _ (silent-steady w t h)
 
 pub clash-steady : (w : Walk) → w .slot < 16 → w .level < 15 → Steady w (w .slot) → Steady (marked w) (suc (w .slot))
 unfolding marked remade
@@ -89,7 +89,7 @@ clash-steady w a b h =
 
 pub next-steady : (w : Walk) (t : ℕ) → Steady w t → Steady (atNextSlot w) t
 unfolding atNextSlot
-next-steady w t h = kept-steady w t (w .rounds) (w .slot + 1) (w .count) (w .ending) h
+next-steady w t h = kept-steady w t _ _ _ _ h
 
 -- ---- a round is opened
 

@@ -66,6 +66,11 @@ use Rattle.field.specs.Replies.{anyReplies}
 use Rattle.field.specs.Demand.{demand3}
 use Rattle.field.proofs.AnyWalk.{judged-fits, walk-of-any-replies}
 use Rattle.field.proofs.Demand3.{walk-of-a-field}
+use Rattle.field.proofs.Examples.{FieldOfThree, field-of-three}
+use Rattle.board.specs.Calls.{Left, Gives}
+use Rattle.board.specs.Walked.{HearsInPlace, AsksInPlace}
+use Rattle.board.proofs.Unique.{gives-unique}
+use Rattle.board.proofs.UniqueWalked.{hear-in-place-unique, ask-in-place-unique}
 
 -- ---- The check
 
@@ -237,6 +242,20 @@ hear-once = hear-unique
 ask-once : (w : Walk) (a : Asking) (r s : Asked) (room room′ : List ℕ) → Asks w a r room → Asks w a s room′ → (r ≡ s) × (room ≡ room′)
 ask-once = ask-unique
 
+-- the card's three calls from C, each with what it is promised to leave
+card-call-once : (l : Left) (r s : ℤ) (bytes bytes′ memory memory′ locks locks′ answer answer′ : List ℕ)
+    → Gives l r bytes memory locks answer → Gives l s bytes′ memory′ locks′ answer′
+    → (r ≡ s) × (bytes ≡ bytes′) × (memory ≡ memory′) × (locks ≡ locks′) × (answer ≡ answer′)
+card-call-once = gives-unique
+
+-- the walk's calls in place: start is as by value, the three that hear, and what to send
+hear-in-place-once : (h : Hearing) (r s : ℤ) (walk walk′ : Walk) (list list′ : List ℕ)
+    → HearsInPlace h r walk list → HearsInPlace h s walk′ list′ → (r ≡ s) × (walk ≡ walk′) × (list ≡ list′)
+hear-in-place-once = hear-in-place-unique
+
+ask-in-place-once : (a : Asking) (r s : ℤ) (room room′ : List ℕ) → AsksInPlace a r room → AsksInPlace a s room′ → (r ≡ s) × (room ≡ room′)
+ask-in-place-once = ask-in-place-unique
+
 -- ---- The examples of the rules page, under a single statement
 
 record Examples : Type 0 where
@@ -246,6 +265,7 @@ record Examples : Type 0 where
   of-reads : BlockReads
   of-information : Information
   of-walks : Walks
+  of-three : FieldOfThree
 
 examples : Examples
 examples =
@@ -256,4 +276,5 @@ examples =
       of-reads = block-reads;
       of-information = information-shown;
       of-walks = walks;
+      of-three = field-of-three;
     }

@@ -8,8 +8,8 @@ mod record;
 // clashed and waits. Family 0 to 255 is an AFI, all else none. Ending 0 is running, 1 complete, 2 twins, 3 full, all else overrun.
 #[repr(C)]
 pub struct Walk {
-    pub mask: u64,
     pub marks: [u16; 16],
+    pub mask: u64,
     pub rounds: u16,
     pub family: u16,
     pub level: u8,

@@ -44,11 +44,13 @@ pub struct Decoder {
     end: Vec<u8>,
 }
 
-impl Decoder {
-    pub fn new() -> Decoder {
+impl Default for Decoder {
+    fn default() -> Decoder {
         Decoder { dictionaries: CODINGS.map(Dictionary::new), end: packed(&end()) }
     }
+}
 
+impl Decoder {
     /// The decoder with its refusals in order: 8, then 9.
     pub fn decode(&self, track: &[u8], room: usize) -> Result<Decoded, Refusal> {
         if room < FRAME_MAX {

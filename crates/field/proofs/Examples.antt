@@ -1,0 +1,84 @@
+-- 01's field of three, over any cards with these UIDs: complete, 2 rounds, listed 05, 11, 21. Worked out slot by slot over the UIDs.
+-- Assumes nothing.
+use mathlib.Core.Path.{_≡_, refl, sym, ap, _∙_}
+use mathlib.Core.Bool.{false}
+use Prim.Native.Nat.{ℕ, zero, suc, _+_, _*_, _≤_}
+use native.Mathlib.Omega.{arith}
+use mathlib.Core.List.{List, [], _∷_}
+use lib.ListN.{length, take, set}
+use Rattle.tails.specs.Tails.{ending}
+use Rattle.walk.specs.declared.Walk.{Walk}
+use Rattle.walk.specs.Marks.{levels, waits, withMark, withoutMark, lowestFrom, lowest, deepestOf, deepest}
+use Rattle.walk.specs.Record.{places, mostRounds, maskLength, complete, isRunning, remade, ended, counted, marked, atNextSlot, openedMask, openedAt, opened, noMarks, started}
+use Rattle.walk.specs.Hear.{endsAtOnce, noted, listNoted, turned, passed, walkAfter, listAfter}
+use Rattle.field.specs.Field.{Tag, answering}
+use Rattle.field.specs.Played.{Play, playedFor, fresh}
+use Rattle.field.specs.Demand.{AllObey, listed}
+use Rattle.field.proofs.Called.{called, slotOf}
+use Rattle.field.proofs.Stages.{stage-fresh}
+use Rattle.field.proofs.Demand3.{uids-fit}
+use Rattle.field.proofs.Stood.{Stand, stood, stoodFor, stood-more, stood-ended, standOf, played-stood}
+
+abbrev pub three : List ℕ
+three = 0xe004010000000011 ∷ 0xe004010000000021 ∷ 0xe004010000000005 ∷ []
+
+-- the walk at its end
+abbrev pub threeEnd : ℕ → Walk
+threeEnd family =
+    record { mask = 1; marks = noMarks; rounds = 2; family = family; level = 1; slot = 15; count = 3; ending = complete }
+
+three-stood : (family a b c : ℕ) (list : List ℕ)
+    → stoodFor three 32 (record { walk = started family; list = a ∷ b ∷ c ∷ list })
+    ≡ record { walk = threeEnd family; list = 0xe004010000000005 ∷ 0xe004010000000011 ∷ 0xe004010000000021 ∷ list }
+unfolding stoodFor stood isRunning started noMarks walkAfter listAfter endsAtOnce noted listNoted passed turned ended counted marked atNextSlot opened openedAt remade openedMask maskLength withMark withoutMark waits lowest lowestFrom deepest deepestOf levels places mostRounds called ending slotOf
+three-stood family a b c list = refl
+
+-- the list has the three at its start
+three-listed : (family : ℕ) (list : List ℕ) → 64 ≤ length list
+    → take 3 (stoodFor three 32 (record { walk = started family; list = list }) .list) ≡ 0xe004010000000005 ∷ 0xe004010000000011 ∷ 0xe004010000000021 ∷ []
+three-listed family [] h = absurd (omega arith)
+three-listed family (a ∷ []) h = absurd (omega arith)
+three-listed family (a ∷ b ∷ []) h = absurd (omega arith)
+three-listed family (a ∷ b ∷ c ∷ list) h = ap (λ (s : Stand). take 3 (s .list)) (three-stood family a b c list)
+
+three-ends : (family : ℕ) (list : List ℕ) → 64 ≤ length list → stoodFor three 32 (record { walk = started family; list = list }) .walk ≡ threeEnd family
+three-ends family [] h = absurd (omega arith)
+three-ends family (a ∷ []) h = absurd (omega arith)
+three-ends family (a ∷ b ∷ []) h = absurd (omega arith)
+three-ends family (a ∷ b ∷ c ∷ list) h = ap (λ (s : Stand). s .walk) (three-stood family a b c list)
+
+-- "E004010000000011, E004010000000021, E004010000000005": what the walk over any cards with these UIDs comes to
+pub record FieldOfThree : Type 0 where
+  pub ends : (family : ℕ) (tags : List Tag) (list room : List ℕ) → AllObey tags → 64 ≤ length list → 14 ≤ length room
+      → answering family tags ≡ three → playedFor (16 * 481) (fresh family list room tags) .walk ≡ threeEnd family
+  pub lists : (family : ℕ) (tags : List Tag) (list room : List ℕ) → AllObey tags → 64 ≤ length list → 14 ≤ length room
+      → answering family tags ≡ three
+      → listed (playedFor (16 * 481) (fresh family list room tags)) ≡ 0xe004010000000005 ∷ 0xe004010000000011 ∷ 0xe004010000000021 ∷ []
+
+three-rests : (family : ℕ) → isRunning (threeEnd family) ≡ false
+unfolding isRunning
+three-rests family = refl
+
+-- ended after 32 slots, it stays
+stands : (family : ℕ) (tags : List Tag) (list room : List ℕ) → AllObey tags → 64 ≤ length list → 14 ≤ length room → answering family tags ≡ three
+    → standOf (playedFor (16 * 481) (fresh family list room tags)) ≡ stoodFor three 32 (record { walk = started family; list = list })
+unfolding fresh
+stands family tags list room obey places fits same =
+    let s : Stand = record { walk = started family; list = list } in
+    played-stood family tags (16 * 481) 0 (fresh family list room tags) obey (uids-fit family tags obey)
+    (stage-fresh family tags (answering family tags) list room obey places fits)
+    ∙ ap (λ (us : List ℕ). stoodFor us (32 + 7664) s) same
+    ∙ stood-more three 32 7664 s
+    ∙ stood-ended three 7664 (stoodFor three 32 s) (ap isRunning (three-ends family list places) ∙ three-rests family)
+
+pub field-of-three : FieldOfThree
+unfolding listed
+field-of-three =
+    record {
+      ends = λ family tags list room obey places fits same.
+          ap (λ (s : Stand). s .walk) (stands family tags list room obey places fits same) ∙ three-ends family list places;
+      lists = λ family tags list room obey places fits same.
+          ap (λ (s : Stand). take (s .walk .count) (s .list)) (stands family tags list room obey places fits same)
+          ∙ ap (λ (w : Walk). take (w .count) (stoodFor three 32 (record { walk = started family; list = list }) .list)) (three-ends family list places)
+          ∙ three-listed family list places;
+    }

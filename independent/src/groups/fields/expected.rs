@@ -1,0 +1,148 @@
+//! What must be found after a field's walk, from its list of UIDs alone: by sets
+//! and counts, and by the field taken apart as the reference's bench does it.
+
+use std::collections::BTreeMap;
+
+use super::built::{Built, BuiltCard, NO_FAMILY, QUIET, SELECTED};
+use crate::groups::counts::Counts;
+use crate::reference::bench::Verdict;
+use crate::reference::tails::{all_differ, is_complete, rounds};
+use crate::reference::walk::{Ending, PLACES};
+
+const COMPLETE: u8 = 1;
+const TWINS: u8 = 2;
+const FULL: u8 = 3;
+const OVERRUN: u8 = 4;
+
+const KINDS: [&str; 19] = [
+    "complete, nobody answers",
+    "complete, one answers",
+    "complete, 2 to 63 answer",
+    "complete, 64 answer",
+    "complete, more than 64 cards",
+    "complete in one round",
+    "complete in 16 rounds or more",
+    "twins, up to 64 answer",
+    "twins, over 64 answer",
+    "full, all differ",
+    "full, 65 answer, all differ",
+    "full, some alike",
+    "alike, but not both answer, complete",
+    "Quiet card",
+    "Selected card answers",
+    "card of another family",
+    "card of the family asked",
+    "family 00",
+    "sequence or held answer before",
+];
+
+pub fn counts() -> Counts {
+    let mut counts = Counts::default();
+    for kind in KINDS {
+        counts.expect(kind);
+    }
+    counts
+}
+
+/// Whether its mode and its family let the card take part.
+fn takes_part(card: &BuiltCard, family: u16) -> bool {
+    card.mode != QUIET && (family >= NO_FAMILY || family == 0 || family == card.afi.into())
+}
+
+/// What is wrong after the walk, if anything is.
+pub fn fault(before: &Built, after: &Built, counts: &mut Counts) -> Option<String> {
+    let family = before.family;
+    let answering: Vec<u64> =
+        before.cards.iter().filter(|card| takes_part(card, family)).map(|card| card.uid).collect();
+    let [count, ending] = after.record.0[46..] else { unreachable!() };
+    let (listed, rest) = after.list.0.split_at(8 * usize::from(count).min(PLACES));
+    let listed: Vec<u64> =
+        listed.chunks(8).map(|place| u64::from_le_bytes(place.try_into().unwrap())).collect();
+    let met = u16::from_le_bytes([after.record.0[40], after.record.0[41]]).into();
+    count_kinds(counts, before, &answering, ending, met);
+
+    let right = match (is_complete(&answering), answering.len() <= PLACES) {
+        (true, _) => ending == COMPLETE,
+        (false, true) => ending == TWINS,
+        (false, false) if all_differ(&answering) => ending == FULL,
+        (false, false) => ending == TWINS || ending == FULL,
+    };
+    let mut times: BTreeMap<u64, usize> = BTreeMap::new();
+    for &uid in &answering {
+        *times.entry(uid).or_default() += 1;
+    }
+    let single = listed.iter().all(|uid| times.get(uid) == Some(&1)) && all_differ(&listed);
+    let complete = ending == COMPLETE;
+    let verdict = Verdict::of(&answering);
+    let number = match verdict.ending {
+        Ending::Complete => COMPLETE,
+        Ending::Twins => TWINS,
+        Ending::Full => FULL,
+        Ending::Overrun => OVERRUN,
+    };
+    let same = (ending, met, &listed) == (number, verdict.rounds.into(), &verdict.list);
+    let wrong = [
+        (!right, "ending"),
+        (complete && met != rounds(&answering), "rounds"),
+        (complete && met > 1 + 15 * (answering.len() / 2), "rounds over their limit"),
+        (complete && listed.len() != answering.len(), "list is short"),
+        (ending == FULL && listed.len() != PLACES, "full with places left"),
+        (!single, "list"),
+        (!same, "ending, rounds or order of the list"),
+        (!before.list.0.ends_with(rest), "list past its end"),
+        (after.record.0[42..44] != family.to_le_bytes(), "family"),
+        (!cards_are_right(before, after), "card after the walk"),
+    ];
+    let (_, what) = wrong.iter().find(|(wrong, _)| *wrong)?;
+    Some(format!("wrong {what}: ending {ending}, rounds {met}, list {listed:016X?}"))
+}
+
+/// Those that take part run along with the walk's slots; else all stays but a
+/// sequence or a held answer from before.
+fn cards_are_right(before: &Built, after: &Built) -> bool {
+    let [level, slot] = after.record.0[44..46] else { unreachable!() };
+    before.cards.iter().zip(&after.cards).all(|(old, new)| {
+        let mut expected = old.clone();
+        let record = &mut expected.record;
+        record[22..26].fill(0);
+        record[32..].fill(0);
+        if takes_part(old, before.family) {
+            record[22..25].copy_from_slice(&[1, slot, 4 * level]);
+            record[32..].copy_from_slice(&after.record.0[32..40]);
+        }
+        *new == expected
+    })
+}
+
+fn count_kinds(counts: &mut Counts, field: &Built, answering: &[u64], ending: u8, met: usize) {
+    let (cards, family, many) = (&field.cards, field.family, answering.len());
+    let (complete, twins, full) = (ending == COMPLETE, ending == TWINS, ending == FULL);
+    let differ = all_differ(answering);
+    let all: Vec<u64> = cards.iter().map(|card| card.uid).collect();
+    let asked = (1..NO_FAMILY).contains(&family);
+    let of_family = |card: &BuiltCard| family == card.afi.into();
+    let kinds = [
+        complete && many == 0,
+        complete && many == 1,
+        complete && (2..PLACES).contains(&many),
+        complete && many == PLACES,
+        complete && cards.len() > PLACES,
+        complete && met == 1,
+        complete && met >= 16,
+        twins && many <= PLACES,
+        twins && many > PLACES,
+        full && differ,
+        full && differ && many == PLACES + 1,
+        full && !differ,
+        complete && !all_differ(&all),
+        cards.iter().any(|card| card.mode == QUIET),
+        cards.iter().any(|card| card.mode == SELECTED && takes_part(card, family)),
+        asked && cards.iter().any(|card| !of_family(card)),
+        asked && cards.iter().any(of_family),
+        family == 0 && cards.iter().any(|card| card.afi != 0),
+        cards.iter().any(|card| card.record[22] > 0 || card.record[25] > 0),
+    ];
+    for (kind, _) in KINDS.iter().zip(kinds).filter(|(_, holds)| *holds) {
+        counts.row(kind);
+    }
+}

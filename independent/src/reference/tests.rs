@@ -1,0 +1,111 @@
+//! The reference against itself: three ways to the same field.
+
+use std::collections::BTreeSet;
+
+use super::bench::{bench, Verdict};
+use super::card::Card;
+use super::field::{card, play};
+use super::tails::{is_complete, rounds};
+use super::walk::{Ending, Walk, PLACES};
+use crate::crowds::{self, CROWDS};
+use crate::random::Random;
+
+/// By the walk and the cards.
+fn played(uids: &[u64]) -> Verdict {
+    let mut cards: Vec<Card> = uids.iter().map(|&uid| card(uid)).collect();
+    let mut walk = Walk::start(256);
+    let mut list = vec![0; PLACES];
+    play(&mut walk, &mut cards, &mut list);
+    list.truncate(walk.listed);
+    Verdict { ending: walk.ending.unwrap(), rounds: walk.rounds, list }
+}
+
+fn agree(uids: &[u64]) {
+    let verdict = played(uids);
+    assert_eq!(verdict, Verdict::of(uids), "{uids:016X?}");
+    assert_eq!(verdict.ending == Ending::Complete, is_complete(uids), "{uids:016X?}");
+    if verdict.ending == Ending::Complete {
+        assert_eq!(usize::from(verdict.rounds), rounds(uids), "{uids:016X?}");
+        assert_eq!(verdict.list.len(), uids.len());
+        assert_eq!(verdict.list.iter().collect::<BTreeSet<_>>(), uids.iter().collect());
+    }
+}
+
+#[test]
+fn walk_bench_and_counts_agree() {
+    let mut random = Random::new(1);
+    for (_, crowd) in CROWDS {
+        for count in (0..9).chain([33, 64, 65, 100]) {
+            agree(&crowd(&mut random, count));
+        }
+    }
+}
+
+#[test]
+fn worst_field_takes_479_rounds() {
+    let uids = crowds::worst(&mut Random::new(2), 66);
+    assert_eq!(played(&uids).rounds, 479);
+}
+
+#[test]
+fn worked_example() {
+    let input = b"E004010000000011\nE004010000000021\nE004010000000005";
+    let text = "verdict complete\nrounds 2\ncards 3\n\
+                E004010000000005\nE004010000000011\nE004010000000021\n";
+    assert_eq!(bench(&input[..]).unwrap(), text);
+    let whole = [&input[..], b"\n"].concat();
+    assert_eq!(bench(&whole[..]).unwrap(), text);
+}
+
+#[test]
+fn bad_lines() {
+    let good = "0123456789ABCDEF\n";
+    let said = |input: &str| bench(input.as_bytes()).unwrap();
+    assert_eq!(said(""), "verdict complete\nrounds 1\ncards 0\n");
+    assert_eq!(said("\n"), "bad line 1\n");
+    assert_eq!(said(&[good, "\n", good].concat()), "bad line 2\n");
+    assert_eq!(said("0123456789ABCDEf\n"), "bad line 1\n");
+    assert_eq!(said("0123456789ABCDE"), "bad line 1\n");
+    assert_eq!(said(&[good, "0123456789ABCDEF0"].concat()), "bad line 2\n");
+    assert_eq!(said("0123456789ABCDEF\r\n"), "bad line 1\n");
+    let hundred = good.repeat(100);
+    assert_eq!(said(&hundred), said(hundred.trim_end()));
+    assert_eq!(said(&[&hundred, "\n"].concat()), "bad line 101\n");
+    assert_eq!(said(&[&hundred, "0"].concat()), "bad line 101\n");
+}
+
+/// What a walk that ends complete says: its list and its rounds.
+type Said = (Vec<u64>, usize);
+
+/// Whether that is what demand 3 asks of a field in which these answer.
+fn meets_demand_3(uids: &[u64], (list, said): &Said) -> bool {
+    let mut listed = list.clone();
+    let mut all = uids.to_vec();
+    listed.sort_unstable();
+    all.sort_unstable();
+    is_complete(uids) && listed == all && *said == rounds(uids)
+}
+
+fn does_nothing(_: &[u64]) -> Said {
+    (Vec::new(), 1)
+}
+
+/// Lists who is alone in a slot of the first round, and calls that all.
+fn sends_one_round(uids: &[u64]) -> Said {
+    let alone = |uid: &u64| uids.iter().filter(|other| *other % 16 == uid % 16).count() == 1;
+    (uids.iter().copied().filter(alone).collect(), 1)
+}
+
+fn invents_its_rounds(uids: &[u64]) -> Said {
+    (uids.to_vec(), 1 + uids.len())
+}
+
+#[test]
+fn useless_walks_break_demand_3() {
+    let field = [0xE004010000000011, 0xE004010000000021, 0xE004010000000005];
+    let right = (field.to_vec(), 2);
+    assert!(meets_demand_3(&field, &right));
+    for useless in [does_nothing, sends_one_round, invents_its_rounds] {
+        assert!(!meets_demand_3(&field, &useless(&field)));
+    }
+}

@@ -1,0 +1,178 @@
+//! The reader's walk. Masks and UIDs are rows of hexadecimal digits, lowest
+//! first; the clashes that wait at a level are a set of slots.
+
+pub mod record;
+
+use std::collections::BTreeSet;
+
+use super::check::sealed;
+use super::Refusal;
+
+pub const LEVELS: usize = 16;
+pub const LAST_SLOT: u8 = 15;
+pub const PLACES: usize = 64;
+pub const ROUNDS: u16 = 481;
+/// The room that is asked for every request.
+pub const REQUEST_ROOM: usize = 14;
+
+#[derive(Clone, Copy, Debug, PartialEq, Eq)]
+pub enum Ending {
+    Complete,
+    Twins,
+    Full,
+    Overrun,
+}
+
+/// What comes in a slot.
+#[derive(Clone, Debug)]
+pub enum Heard {
+    Silence,
+    Clash,
+    Bytes(Vec<u8>),
+}
+
+/// What the walk takes it for. A clash tells why.
+#[derive(Clone, Copy, Debug, PartialEq, Eq)]
+pub enum Meaning {
+    Silence,
+    Clash(&'static str),
+    Clean(u64),
+}
+
+#[derive(Clone, Debug, PartialEq, Eq)]
+pub enum Sent {
+    Request(Vec<u8>),
+    SlotMark,
+    Nothing,
+}
+
+#[derive(Clone, Debug)]
+pub struct Walk {
+    /// Up to 255 an AFI, above that none.
+    pub family: u16,
+    /// As many digits as the level.
+    pub mask: Vec<u8>,
+    pub slot: u8,
+    /// For each level, the slots that clashed and wait.
+    pub waiting: Vec<BTreeSet<u8>>,
+    pub rounds: u16,
+    pub listed: usize,
+    pub ending: Option<Ending>,
+}
+
+impl Walk {
+    pub fn start(family: u16) -> Walk {
+        Walk {
+            family,
+            mask: Vec::new(),
+            slot: 0,
+            waiting: vec![BTreeSet::new(); LEVELS],
+            rounds: 1,
+            listed: 0,
+            ending: None,
+        }
+    }
+
+    /// Numbers 6 and 5, in this order; 10 is met by reading the record.
+    pub fn hear(&mut self, heard: &Heard, list: &mut [u64]) -> Result<(), Refusal> {
+        if self.ending.is_some() {
+            return Err(Refusal::Ended);
+        }
+        if list.len() < PLACES {
+            return Err(Refusal::List);
+        }
+        match self.meaning(heard) {
+            Meaning::Clash(_) if self.mask.len() == LEVELS - 1 => {
+                self.ending = Some(Ending::Twins);
+                return Ok(());
+            }
+            Meaning::Clean(_) if self.listed == PLACES => {
+                self.ending = Some(Ending::Full);
+                return Ok(());
+            }
+            Meaning::Clash(_) => {
+                self.waiting[self.mask.len()].insert(self.slot);
+            }
+            Meaning::Clean(uid) => {
+                list[self.listed] = uid;
+                self.listed += 1;
+            }
+            Meaning::Silence => {}
+        }
+        self.go_on();
+        Ok(())
+    }
+
+    /// Number 8, after 10.
+    pub fn ask(&self, room: usize) -> Result<Sent, Refusal> {
+        match (self.ending, self.slot) {
+            (Some(_), _) => Ok(Sent::Nothing),
+            (None, 1..) => Ok(Sent::SlotMark),
+            (None, 0) if room < REQUEST_ROOM => Err(Refusal::Room),
+            (None, 0) => Ok(Sent::Request(self.request())),
+        }
+    }
+
+    pub fn meaning(&self, heard: &Heard) -> Meaning {
+        let bytes = match heard {
+            Heard::Silence => return Meaning::Silence,
+            Heard::Clash => return Meaning::Clash("told"),
+            Heard::Bytes(bytes) => bytes,
+        };
+        if bytes.len() != 12 {
+            return Meaning::Clash("not 12 bytes");
+        }
+        if *bytes != sealed(&bytes[..10]) {
+            return Meaning::Clash("wrong check");
+        }
+        if bytes[0] != 0x00 {
+            return Meaning::Clash("wrong flags");
+        }
+        let digits = digits_of(&bytes[2..10]);
+        if !digits.starts_with(&self.mask) {
+            return Meaning::Clash("other mask");
+        }
+        if digits[self.mask.len()] != self.slot {
+            return Meaning::Clash("other slot");
+        }
+        Meaning::Clean(bytes[2..10].iter().rev().fold(0, |uid, &byte| 256 * uid + u64::from(byte)))
+    }
+
+    /// To the next slot, or after slot 15 to the next round or the end.
+    fn go_on(&mut self) {
+        if self.slot < LAST_SLOT {
+            self.slot += 1;
+            return;
+        }
+        match self.waiting.iter().rposition(|slots| !slots.is_empty()) {
+            None => self.ending = Some(Ending::Complete),
+            Some(_) if self.rounds == ROUNDS => self.ending = Some(Ending::Overrun),
+            Some(level) => {
+                self.mask.truncate(level);
+                self.mask.extend(self.waiting[level].pop_first());
+                self.slot = 0;
+                self.rounds += 1;
+            }
+        }
+    }
+
+    fn request(&self) -> Vec<u8> {
+        let mut message = match u8::try_from(self.family) {
+            Ok(afi) => vec![0x16, 0x01, afi],
+            Err(_) => vec![0x06, 0x01],
+        };
+        message.push(4 * self.mask.len() as u8);
+        message.extend(bytes_of(&self.mask));
+        sealed(&message)
+    }
+}
+
+/// The digits of bytes that go lowest first.
+pub fn digits_of(bytes: &[u8]) -> Vec<u8> {
+    bytes.iter().flat_map(|byte| [byte % 16, byte / 16]).collect()
+}
+
+/// Two digits to a byte; the last is padded with 0.
+pub fn bytes_of(digits: &[u8]) -> Vec<u8> {
+    digits.chunks(2).map(|pair| pair[0] + 16 * pair.get(1).unwrap_or(&0)).collect()
+}
