@@ -1,0 +1,73 @@
+use Rattle.rack.proofs.play.deal.Statement.{statement}
+use Rattle.rack.proofs.play.deal.Tie as tie
+use Rattle.rack.proofs.play.deal.Reads as reads
+use Rattle.rack.proofs.play.deal.Lts as lts
+use Rattle.rack.proofs.row.card_of.Reads as card-of-reads
+
+abbrev Inv-loop : tie.InvT-loop
+Inv-loop uids row₀ i₀ row i = ?
+
+abbrev μ-loop : tie.MeasureT-loop
+μ-loop uids row₀ i₀ row i = ?
+
+-- src/play.rt:68:20
+card-of-requires : tie.Need-card-of-requires Inv-loop μ-loop
+card-of-requires c κs = ?
+
+-- src/play.rt:70:5
+loop-holds : tie.Need-loop-holds Inv-loop μ-loop
+loop-holds c = ?
+
+-- src/play.rt:71:26
+mul-card-of : tie.Need-mul-card-of Inv-loop μ-loop
+mul-card-of c = ?
+
+-- src/play.rt:71:26
+array-read-card-of : tie.Need-array-read-card-of Inv-loop μ-loop
+array-read-card-of c = ?
+
+-- src/play.rt:71:18
+card-of-requires-2 : tie.Need-card-of-requires-2 Inv-loop μ-loop
+card-of-requires-2 c κs = ?
+
+-- src/play.rt:71:9
+mul-row : tie.Need-mul-row Inv-loop μ-loop
+mul-row c = ?
+
+-- src/play.rt:71:9
+array-set-from-row : tie.Need-array-set-from-row Inv-loop μ-loop
+array-set-from-row c = ?
+
+-- src/play.rt:72:9
+add-i : tie.Need-add-i Inv-loop μ-loop
+add-i c = ?
+
+-- src/play.rt:70:5
+loop-less : tie.Need-loop-less Inv-loop μ-loop
+loop-less c = ?
+
+-- src/play.rt:70:5
+loop-again : tie.Need-loop-again Inv-loop μ-loop
+loop-again c = ?
+
+-- src/play.rt:65:1
+returns : tie.Need-returns Inv-loop μ-loop
+returns c = ?
+
+pub deal-spec : {M : Type 1} → statement M
+deal-spec =
+    tie.close
+    (tie.spec
+    Inv-loop
+    μ-loop
+    card-of-requires
+    loop-holds
+    mul-card-of
+    array-read-card-of
+    card-of-requires-2
+    mul-row
+    array-set-from-row
+    add-i
+    loop-less
+    loop-again
+    returns)

@@ -1,0 +1,19 @@
+use Rattle.rack.proofs.play.kind_of.Statement.{statement}
+use Rattle.rack.proofs.play.kind_of.Tie as tie
+use Rattle.rack.proofs.play.kind_of.Reads as reads
+use Rattle.rack.proofs.play.kind_of.Lts as lts
+
+-- src/play.rt:30:9
+returns : tie.Need-returns
+returns c = ?
+
+-- src/play.rt:33:9
+returns-2 : tie.Need-returns-2
+returns-2 c = ?
+
+-- src/play.rt:26:1
+returns-3 : tie.Need-returns-3
+returns-3 c = ?
+
+pub kind-of-spec : {M : Type 1} → statement M
+kind-of-spec = tie.close (tie.spec returns returns-2 returns-3)

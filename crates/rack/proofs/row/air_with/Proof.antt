@@ -1,0 +1,112 @@
+use borrow.Author.Needs.{needs}
+use Rattle.rack.proofs.row.air_with.Statement.{statement}
+use Rattle.rack.proofs.row.air_with.Tie as tie
+use Rattle.rack.proofs.row.air_with.Reads as reads
+use Rattle.rack.proofs.row.air_with.Lts as lts
+use Rattle.rack.proofs.row.clash.Reads as clash-reads
+use Rattle.rack.proofs.row.present.Reads as present-reads
+
+-- src/row.rt:90:27
+enum-told : tie.Need-enum-told
+enum-told c = search needs
+
+-- src/row.rt:91:28
+enum-told-2 : tie.Need-enum-told-2
+enum-told-2 c = search needs
+
+-- src/row.rt:91:28
+clash-requires : tie.Need-clash-requires
+clash-requires c κs = search needs
+
+-- src/row.rt:92:24
+enum-told-3 : tie.Need-enum-told-3
+enum-told-3 c = search needs
+
+-- src/row.rt:92:24
+clash-requires-2 : tie.Need-clash-requires-2
+clash-requires-2 c κs = search needs
+
+-- src/row.rt:93:27
+enum-told-4 : tie.Need-enum-told-4
+enum-told-4 c = search needs
+
+-- src/row.rt:93:27
+present-requires : tie.Need-present-requires
+present-requires c κs = search needs
+
+-- src/row.rt:94:35
+enum-told-5 : tie.Need-enum-told-5
+enum-told-5 c = search needs
+
+-- src/row.rt:94:35
+clash-requires-3 : tie.Need-clash-requires-3
+clash-requires-3 c κs = search needs
+
+-- src/row.rt:95:32
+enum-told-6 : tie.Need-enum-told-6
+enum-told-6 c = search needs
+
+-- src/row.rt:95:32
+clash-requires-4 : tie.Need-clash-requires-4
+clash-requires-4 c κs = search needs
+
+-- src/row.rt:96:31
+enum-told-7 : tie.Need-enum-told-7
+enum-told-7 c = search needs
+
+-- src/row.rt:96:31
+clash-requires-5 : tie.Need-clash-requires-5
+clash-requires-5 c κs = search needs
+
+-- src/row.rt:86:1
+returns : tie.Need-returns
+returns c = ?
+
+-- src/row.rt:86:1
+returns-2 : tie.Need-returns-2
+returns-2 c = ?
+
+-- src/row.rt:86:1
+returns-3 : tie.Need-returns-3
+returns-3 c = ?
+
+-- src/row.rt:86:1
+returns-4 : tie.Need-returns-4
+returns-4 c = ?
+
+-- src/row.rt:86:1
+returns-5 : tie.Need-returns-5
+returns-5 c = ?
+
+-- src/row.rt:86:1
+returns-6 : tie.Need-returns-6
+returns-6 c = ?
+
+-- src/row.rt:86:1
+returns-7 : tie.Need-returns-7
+returns-7 c = ?
+
+pub air-with-spec : {M : Type 1} → statement M
+air-with-spec =
+    tie.close
+    (tie.spec
+    enum-told
+    enum-told-2
+    clash-requires
+    enum-told-3
+    clash-requires-2
+    enum-told-4
+    present-requires
+    enum-told-5
+    clash-requires-3
+    enum-told-6
+    clash-requires-4
+    enum-told-7
+    clash-requires-5
+    returns
+    returns-2
+    returns-3
+    returns-4
+    returns-5
+    returns-6
+    returns-7)

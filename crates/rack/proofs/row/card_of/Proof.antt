@@ -1,0 +1,11 @@
+use Rattle.rack.proofs.row.card_of.Statement.{statement}
+use Rattle.rack.proofs.row.card_of.Tie as tie
+use Rattle.rack.proofs.row.card_of.Reads as reads
+use Rattle.rack.proofs.row.card_of.Lts as lts
+
+-- src/row.rt:16:1
+returns : tie.Need-returns
+returns c = ?
+
+pub card-of-spec : {M : Type 1} → statement M
+card-of-spec = tie.close (tie.spec returns)

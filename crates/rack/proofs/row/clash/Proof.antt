@@ -1,0 +1,11 @@
+use Rattle.rack.proofs.row.clash.Statement.{statement}
+use Rattle.rack.proofs.row.clash.Tie as tie
+use Rattle.rack.proofs.row.clash.Reads as reads
+use Rattle.rack.proofs.row.clash.Lts as lts
+
+-- src/row.rt:62:1
+returns : tie.Need-returns
+returns c = ?
+
+pub clash-spec : {M : Type 1} → statement M
+clash-spec = tie.close (tie.spec returns)

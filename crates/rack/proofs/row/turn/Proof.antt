@@ -1,0 +1,73 @@
+use borrow.Author.Needs.{needs}
+use Rattle.rack.proofs.row.turn.Statement.{statement}
+use Rattle.rack.proofs.row.turn.Tie as tie
+use Rattle.rack.proofs.row.turn.Reads as reads
+use Rattle.rack.proofs.row.turn.Lts as lts
+use Rattle.card.proofs.Card.hear_inventory.Reads as hear-inventory-reads
+use Rattle.card.proofs.Card.hear_mark.Reads as hear-mark-reads
+use Rattle.walk.proofs.Walk.ask.Reads as ask-reads
+
+-- src/row.rt:39:26
+slice-aggregate-ask : tie.Need-slice-aggregate-ask
+slice-aggregate-ask c = search needs
+
+-- src/row.rt:39:9
+ask-requires : tie.Need-ask-requires
+ask-requires c κs = search needs
+
+-- src/row.rt:44:20
+enum-told : tie.Need-enum-told
+enum-told c = search needs
+
+-- src/row.rt:46:23
+enum-told-2 : tie.Need-enum-told-2
+enum-told-2 c = search needs
+
+-- src/row.rt:46:23
+hear-mark-requires : tie.Need-hear-mark-requires
+hear-mark-requires c κs = search needs
+
+-- src/row.rt:47:23
+enum-known-send : tie.Need-enum-known-send
+enum-known-send c = search needs
+
+-- src/row.rt:47:49
+array-share-prefix-room : tie.Need-array-share-prefix-room
+array-share-prefix-room c = ?
+
+-- src/row.rt:47:49
+slice-aggregate-hear-inventory : tie.Need-slice-aggregate-hear-inventory
+slice-aggregate-hear-inventory c = ?
+
+-- src/row.rt:47:29
+hear-inventory-requires : tie.Need-hear-inventory-requires
+hear-inventory-requires c κs = search needs
+
+-- src/row.rt:35:1
+returns : tie.Need-returns
+returns c = ?
+
+-- src/row.rt:35:1
+returns-2 : tie.Need-returns-2
+returns-2 c = ?
+
+-- src/row.rt:35:1
+returns-3 : tie.Need-returns-3
+returns-3 c = ?
+
+pub turn-spec : {M : Type 1} → statement M
+turn-spec =
+    tie.close
+    (tie.spec
+    slice-aggregate-ask
+    ask-requires
+    enum-told
+    enum-told-2
+    hear-mark-requires
+    enum-known-send
+    array-share-prefix-room
+    slice-aggregate-hear-inventory
+    hear-inventory-requires
+    returns
+    returns-2
+    returns-3)
