@@ -1,4 +1,5 @@
 use borrow.Author.Needs.{needs}
+use Rattle.rack.specs.Bench.{freshDesk, noUids}
 use Rattle.rack.proofs.play.fresh.Statement.{statement}
 use Rattle.rack.proofs.play.fresh.Tie as tie
 use Rattle.rack.proofs.play.fresh.Reads as reads
@@ -11,7 +12,8 @@ start-requires c κs = search needs
 
 -- src/play.rt:17:1
 returns : tie.Need-returns
-returns c = ?
+unfolding freshDesk noUids
+returns c = rw (c .start .ensures)
 
 pub fresh-spec : {M : Type 1} → statement M
 fresh-spec = tie.close (tie.spec start-requires returns)

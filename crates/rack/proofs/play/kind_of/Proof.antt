@@ -1,3 +1,5 @@
+use borrow.Author.Tests.{eq-eqb, ne-eqb}
+use Rattle.rack.specs.Row.{airKind}
 use Rattle.rack.proofs.play.kind_of.Statement.{statement}
 use Rattle.rack.proofs.play.kind_of.Tie as tie
 use Rattle.rack.proofs.play.kind_of.Reads as reads
@@ -5,15 +7,18 @@ use Rattle.rack.proofs.play.kind_of.Lts as lts
 
 -- src/play.rt:30:9
 returns : tie.Need-returns
-returns c = ?
+unfolding airKind
+returns c = rw (c .if1 .taken)
 
 -- src/play.rt:33:9
 returns-2 : tie.Need-returns-2
-returns-2 c = ?
+unfolding airKind
+returns-2 c = rw (c .if2 .taken)
 
 -- src/play.rt:26:1
 returns-3 : tie.Need-returns-3
-returns-3 c = ?
+unfolding airKind
+returns-3 c = rw (ne-eqb _ _ (c .before .before .if1 .left), ne-eqb _ _ (c .if2 .left))
 
 pub kind-of-spec : {M : Type 1} → statement M
 kind-of-spec = tie.close (tie.spec returns returns-2 returns-3)

@@ -1,4 +1,5 @@
 use borrow.Author.Needs.{needs}
+use Rattle.rack.specs.Row.{airWith}
 use Rattle.rack.proofs.row.air_with.Statement.{statement}
 use Rattle.rack.proofs.row.air_with.Tie as tie
 use Rattle.rack.proofs.row.air_with.Reads as reads
@@ -60,31 +61,38 @@ clash-requires-5 c κs = search needs
 
 -- src/row.rt:86:1
 returns : tie.Need-returns
-returns c = ?
+unfolding airWith
+returns c = rw (c .enum-told .given .1)
 
 -- src/row.rt:86:1
 returns-2 : tie.Need-returns-2
-returns-2 c = ?
+unfolding airWith
+returns-2 c = rw (c .before .enum-told2 .given .1, c .clash .ensures)
 
 -- src/row.rt:86:1
 returns-3 : tie.Need-returns-3
-returns-3 c = ?
+unfolding airWith
+returns-3 c = rw (c .before .enum-told3 .given .1, c .clash2 .ensures)
 
 -- src/row.rt:86:1
 returns-4 : tie.Need-returns-4
-returns-4 c = ?
+unfolding airWith
+returns-4 c = rw (c .before .enum-told4 .given .1, c .present .ensures)
 
 -- src/row.rt:86:1
 returns-5 : tie.Need-returns-5
-returns-5 c = ?
+unfolding airWith
+returns-5 c = rw (c .before .enum-told5 .given .1, c .clash3 .ensures)
 
 -- src/row.rt:86:1
 returns-6 : tie.Need-returns-6
-returns-6 c = ?
+unfolding airWith
+returns-6 c = rw (c .before .enum-told6 .given .1, c .clash4 .ensures)
 
 -- src/row.rt:86:1
 returns-7 : tie.Need-returns-7
-returns-7 c = ?
+unfolding airWith
+returns-7 c = rw (c .before .enum-told7 .given .1, c .clash5 .ensures)
 
 pub air-with-spec : {M : Type 1} → statement M
 air-with-spec =

@@ -1,3 +1,5 @@
+use mathlib.Core.Path.{refl}
+use Rattle.rack.specs.Row.{cardOf}
 use Rattle.rack.proofs.row.card_of.Statement.{statement}
 use Rattle.rack.proofs.row.card_of.Tie as tie
 use Rattle.rack.proofs.row.card_of.Reads as reads
@@ -5,7 +7,8 @@ use Rattle.rack.proofs.row.card_of.Lts as lts
 
 -- src/row.rt:16:1
 returns : tie.Need-returns
-returns c = ?
+unfolding cardOf
+returns c = refl
 
 pub card-of-spec : {M : Type 1} → statement M
 card-of-spec = tie.close (tie.spec returns)

@@ -1,3 +1,5 @@
+use mathlib.Core.Path.{refl}
+use Rattle.rack.specs.Row.{crowded}
 use Rattle.rack.proofs.row.clash.Statement.{statement}
 use Rattle.rack.proofs.row.clash.Tie as tie
 use Rattle.rack.proofs.row.clash.Reads as reads
@@ -5,7 +7,8 @@ use Rattle.rack.proofs.row.clash.Lts as lts
 
 -- src/row.rt:62:1
 returns : tie.Need-returns
-returns c = ?
+unfolding crowded
+returns c = refl
 
 pub clash-spec : {M : Type 1} → statement M
 clash-spec = tie.close (tie.spec returns)

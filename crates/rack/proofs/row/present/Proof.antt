@@ -1,4 +1,6 @@
 use borrow.Author.Needs.{needs}
+use borrow.Author.Tests.{eq-eqb, ne-eqb}
+use Rattle.rack.specs.Row.{airWith}
 use Rattle.rack.proofs.row.present.Statement.{statement}
 use Rattle.rack.proofs.row.present.Tie as tie
 use Rattle.rack.proofs.row.present.Reads as reads
@@ -11,11 +13,13 @@ clash-requires c κs = search needs
 
 -- src/row.rt:72:1
 returns : tie.Need-returns
-returns c = ?
+unfolding airWith
+returns c = rw (c .if1 .taken)
 
 -- src/row.rt:72:1
 returns-2 : tie.Need-returns-2
-returns-2 c = ?
+unfolding airWith
+returns-2 c = rw (c .clash .ensures, ne-eqb _ _ (c .before .if1 .left))
 
 pub present-spec : {M : Type 1} → statement M
 present-spec = tie.close (tie.spec clash-requires returns returns-2)
