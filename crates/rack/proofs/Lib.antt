@@ -1,1 +1,5 @@
+mod Sent
+mod Answer
 mod RowPart
+mod Dealt
+mod Played

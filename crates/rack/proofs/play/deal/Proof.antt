@@ -1,3 +1,10 @@
+use native.Mathlib.Omega.{arith}
+use borrow.Author.Needs.{needs}
+use Prim.Native.Nat.{_≤_, _-_}
+use mathlib.Core.Path.{_≡_, refl, _∙_}
+use lib.ListN.{length, take, length-set}
+use Rattle.rack.proofs.Dealt.{dealt-more, dealt-all}
+use Rattle.rack.specs.Row.{cardsOf}
 use Rattle.rack.proofs.play.deal.Statement.{statement}
 use Rattle.rack.proofs.play.deal.Tie as tie
 use Rattle.rack.proofs.play.deal.Reads as reads
@@ -5,54 +12,63 @@ use Rattle.rack.proofs.play.deal.Lts as lts
 use Rattle.rack.proofs.row.card_of.Reads as card-of-reads
 
 abbrev Inv-loop : tie.InvT-loop
-Inv-loop uids row₀ i₀ row i = ?
+Inv-loop uids row₀ i₀ row i = (i ≤ 100) × ((length row ≡ 100) × (take i row ≡ cardsOf (take i uids)))
 
 abbrev μ-loop : tie.MeasureT-loop
-μ-loop uids row₀ i₀ row i = ?
+μ-loop uids row₀ i₀ row i = 100 - i
 
 -- src/play.rt:68:20
 card-of-requires : tie.Need-card-of-requires Inv-loop μ-loop
-card-of-requires c κs = ?
+card-of-requires c κs = search needs
 
 -- src/play.rt:70:5
 loop-holds : tie.Need-loop-holds Inv-loop μ-loop
-loop-holds c = ?
+unfolding cardsOf
+loop-holds c = (omega arith, (refl, refl))
 
 -- src/play.rt:71:26
 mul-card-of : tie.Need-mul-card-of Inv-loop μ-loop
-mul-card-of c = ?
+mul-card-of c = omega arith
 
 -- src/play.rt:71:26
 array-read-card-of : tie.Need-array-read-card-of Inv-loop μ-loop
-array-read-card-of c = ?
+array-read-card-of c = omega arith
 
 -- src/play.rt:71:18
 card-of-requires-2 : tie.Need-card-of-requires-2 Inv-loop μ-loop
-card-of-requires-2 c κs = ?
+card-of-requires-2 c κs = search needs
 
 -- src/play.rt:71:9
 mul-row : tie.Need-mul-row Inv-loop μ-loop
-mul-row c = ?
+mul-row c = omega arith
 
 -- src/play.rt:71:9
 array-set-from-row : tie.Need-array-set-from-row Inv-loop μ-loop
-array-set-from-row c = ?
+array-set-from-row c = omega arith
 
 -- src/play.rt:72:9
 add-i : tie.Need-add-i Inv-loop μ-loop
-add-i c = ?
+add-i c = omega arith
 
 -- src/play.rt:70:5
 loop-less : tie.Need-loop-less Inv-loop μ-loop
-loop-less c = ?
+loop-less c = omega arith
 
 -- src/play.rt:70:5
 loop-again : tie.Need-loop-again Inv-loop μ-loop
-loop-again c = ?
+loop-again c =
+    let loop = c .before .before .loop in
+    let uids = c .before .before .before .before .args .t1 in
+    let all : length uids ≡ 100 = c .before .before .before .before .good .0 .1 .0 .1 in
+    (omega arith, (length-set (loop .row) (loop .i) _ ∙ loop .inv .1 .0, dealt-more uids (loop .row) (loop .i) (omega (arith, all)) (omega arith) (loop .inv .1 .1) (c .card-of2 .ensures)))
 
 -- src/play.rt:65:1
 returns : tie.Need-returns Inv-loop μ-loop
-returns c = ?
+returns c =
+    let loop = c .before .loop in
+    let uids = c .before .before .before .args .t1 in
+    let all : length uids ≡ 100 = c .before .before .before .good .0 .1 .0 .1 in
+    dealt-all uids (loop .row) (loop .i) (omega (arith, all)) (omega arith) (loop .inv .1 .1)
 
 pub deal-spec : {M : Type 1} → statement M
 deal-spec =

@@ -1,4 +1,5 @@
 use borrow.Author.Needs.{needs}
+use Rattle.rack.proofs.Answer.{answer-sealed, desk-heard}
 use Rattle.rack.proofs.play.hear.Statement.{statement}
 use Rattle.rack.proofs.play.hear.Tie as tie
 use Rattle.rack.proofs.play.hear.Reads as reads
@@ -46,7 +47,7 @@ hear-requires c κs = search needs
 
 -- src/play.rt:39:1
 returns : tie.Need-returns
-returns c = ?
+returns c = desk-heard _ _ (c .before .before .before .before .before .kind-of .ensures) (answer-sealed _ (c .before .before .before .before .before .before .before .before .before .before .before .before .put-field .ensures) (c .before .before .before .before .before .before .before .before .before .seal .ensures)) (c .before .before .hear .ensures)
 
 pub hear-spec : {M : Type 1} → statement M
 hear-spec =

@@ -1,4 +1,7 @@
 use borrow.Author.Needs.{needs}
+use mathlib.Core.Path.{ap, _∙_}
+use Rattle.rack.specs.Row.{airWith}
+use Rattle.card.specs.declared.Turn.{Turn}
 use Rattle.rack.proofs.row.listen.Statement.{statement}
 use Rattle.rack.proofs.row.listen.Tie as tie
 use Rattle.rack.proofs.row.listen.Reads as reads
@@ -16,7 +19,7 @@ air-with-requires c κs = search needs
 
 -- src/row.rt:100:1
 returns : tie.Need-returns
-returns c = ?
+returns c = record { card = ap (λ (t : Turn). t .card) (c .before .before .turn .ensures); air-left = c .air-with .ensures ∙ ap (λ (t : Turn). airWith _ (t .card) (t .reply)) (c .before .before .turn .ensures) }
 
 pub listen-spec : {M : Type 1} → statement M
 listen-spec = tie.close (tie.spec turn-requires air-with-requires returns)

@@ -1,4 +1,7 @@
 use borrow.Author.Needs.{needs}
+use mathlib.Core.Path.{sym, _∙_}
+use Rattle.rack.specs.Row.{noBytes, turnBy}
+use Rattle.rack.proofs.Sent.{turn-sent, request-within, request-taken}
 use Rattle.rack.proofs.row.turn.Statement.{statement}
 use Rattle.rack.proofs.row.turn.Tie as tie
 use Rattle.rack.proofs.row.turn.Reads as reads
@@ -33,11 +36,13 @@ enum-known-send c = search needs
 
 -- src/row.rt:47:49
 array-share-prefix-room : tie.Need-array-share-prefix-room
-array-share-prefix-room c = ?
+unfolding noBytes
+array-share-prefix-room c = request-within _ (c .before .before .before .before .ask .ensures) (c .before .send .given .1) (c .before .before .before .before .ask .kept .1 .0)
 
 -- src/row.rt:47:49
 slice-aggregate-hear-inventory : tie.Need-slice-aggregate-hear-inventory
-slice-aggregate-hear-inventory c = ?
+unfolding noBytes
+slice-aggregate-hear-inventory c = request-taken _ (c .before .before .before .before .before .ask .ensures) (c .before .before .send .given .1) (c .before .before .before .before .before .ask .kept .1 .0)
 
 -- src/row.rt:47:29
 hear-inventory-requires : tie.Need-hear-inventory-requires
@@ -45,15 +50,18 @@ hear-inventory-requires c κs = search needs
 
 -- src/row.rt:35:1
 returns : tie.Need-returns
-returns c = ?
+unfolding noBytes turnBy
+returns c = turn-sent _ _ (c .before .before .before .ask .ensures) (c .enum-told .given .1)
 
 -- src/row.rt:35:1
 returns-2 : tie.Need-returns-2
-returns-2 c = ?
+unfolding noBytes turnBy
+returns-2 c = c .hear-mark .ensures ∙ turn-sent _ _ (c .before .before .before .before .ask .ensures) (c .before .enum-told2 .given .1)
 
 -- src/row.rt:35:1
 returns-3 : tie.Need-returns-3
-returns-3 c = ?
+unfolding noBytes turnBy
+returns-3 c = c .hear-inventory .ensures ∙ turn-sent _ _ (c .before .before .before .before .before .before .ask .ensures) (c .before .before .before .send .given .1)
 
 pub turn-spec : {M : Type 1} → statement M
 turn-spec =
