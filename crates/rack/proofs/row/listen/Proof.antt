@@ -19,7 +19,7 @@ air-with-requires c κs = search needs
 
 -- src/row.rt:100:1
 returns : tie.Need-returns
-returns c = record { card = ap (λ (t : Turn). t .card) (c .before .before .turn .ensures); air-left = c .air-with .ensures ∙ ap (λ (t : Turn). airWith _ (t .card) (t .reply)) (c .before .before .turn .ensures) }
+returns c = record { card = ap (λ (t : Turn). t .card) (c .before .before .turn .ensures); air-left = c .air-with .ensures ∙ ap (λ (t : Turn). airWith (c .before .before .before .args .air) (t .card) (t .reply)) (c .before .before .turn .ensures) }
 
 pub listen-spec : {M : Type 1} → statement M
 listen-spec = tie.close (tie.spec turn-requires air-with-requires returns)
