@@ -3,3 +3,4 @@ mod Answer
 mod RowPart
 mod Dealt
 mod Played
+mod LocalRow

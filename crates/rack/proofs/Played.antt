@@ -40,9 +40,9 @@ pub record Playing (us : List ℕ) (k : ℕ) (desk : Desk) (row : List Card) : T
   pub slots : k ≤ 7696
   pub desk-left : playedFor (7696 - k) (record { desk = desk; row = row }) .desk ≡ ended us
 
-pub playing-none : (us : List ℕ) → Playing us 0 freshDesk (cardsOf us)
+pub playing-none : (us : List ℕ) (desk : Desk) (row : List Card) → desk ≡ freshDesk → row ≡ cardsOf us → Playing us 0 desk row
 unfolding ended
-playing-none us = record { slots = omega arith; desk-left = refl }
+playing-none us desk row d r = record { slots = omega arith; desk-left = λ i. playedFor 7696 (record { desk = d i; row = r i }) .desk }
 
 module _ (us : List ℕ) (k : ℕ) (desk : Desk) (row : List Card) (p : Playing us k desk row) where
   pub playing-more : (air : Air) (next : Desk) (left : List Card) → k < 7696 → air ≡ rowAir (desk .walk) stillAir row → left ≡ rowAfter (desk .walk) row → next ≡ deskAfter desk air → Playing us (k + 1) next left
