@@ -4,3 +4,4 @@ mod RowPart
 mod Dealt
 mod Played
 mod LocalRow
+mod Values
