@@ -2,7 +2,7 @@
 -- Assumes nothing.
 use Prim.Native.Nat.{ℕ}
 use mathlib.Core.List.{List, [], _∷_}
-use mathlib.Core.Path.{_≡_, refl, sym, _∙_, ap}
+use mathlib.Core.Path.{_≡_, _∙_, ap}
 use lib.IntN.{ℤ}
 use Rattle.lent.specs.Lent.{over, placed}
 use Rattle.crc.specs.Check.{checkBytes, sealed}

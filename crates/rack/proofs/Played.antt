@@ -1,12 +1,12 @@
 -- Slots that have been played: what the rest of them makes of the desk and the row is what all make of them from the start. An ended walk stays as it is.
 --     ended-stays, played-ended    hearing is refused.        playing-none, playing-more, playing-over     none played, one more, and no more to play
 -- Assumes nothing.
-use Prim.Native.Nat.{ℕ, zero, suc, _+_, _-_, _*_, _≤_, _<_}
+use Prim.Native.Nat.{ℕ, zero, suc, _+_, _-_, _≤_, _<_}
 use native.Mathlib.Omega.{arith}
 use mathlib.Core.Bool.{Bool, true, false, cond, _&&_}
 use mathlib.Core.List.{List}
 use mathlib.Core.Path.{_≡_, refl, sym, _∙_, ap, subst}
-use borrow.Author.Tests.{ltb-true, ltb-false, eqb-false, ne-eqb}
+use borrow.Author.Tests.{ltb-false, eqb-false, ne-eqb}
 use lib.Dec.{T, ltb, eqb}
 use Rattle.card.specs.declared.Card.{Card}
 use Rattle.walk.specs.declared.Walk.{Walk}
@@ -15,7 +15,7 @@ use Rattle.walk.specs.Record.{isAccepted, isRunning}
 use Rattle.walk.specs.Hear.{Hearing, refusal, hearing}
 use Rattle.rack.specs.declared.Air.{Air}
 use Rattle.rack.specs.declared.Desk.{Desk}
-use Rattle.rack.specs.Row.{stillAir, rowAir, rowAfter, airKind, airBytes, deskAfter, Played, slotPlayed, playedFor, cardsOf}
+use Rattle.rack.specs.Row.{stillAir, rowAir, rowAfter, airKind, airBytes, deskAfter, slotPlayed, playedFor, cardsOf}
 use Rattle.rack.specs.Bench.{freshDesk, ended}
 
 hearing-ended : (w : Walk) (kind : Kind) (bytes list : List ℕ) → (w .ending ≡ 0 → ⊥) → hearing w kind bytes list ≡ record { walk = w; list = list; number = cond (isAccepted w) 6 10 }

@@ -1,7 +1,7 @@
 -- A row that has been heard up to a place: what the rest of it adds from here is what the whole adds from the start.
 --     partly-none      nothing heard.        partly-more      one card more.        partly-air, partly-row     the whole row
 -- Assumes nothing.
-use Prim.Native.Nat.{ℕ, zero, suc, _+_, _≤_, _<_}
+use Prim.Native.Nat.{ℕ, suc, _+_, _≤_, _<_}
 use native.Mathlib.Nat.{le-refl}
 use native.Mathlib.Omega.{arith}
 use mathlib.Core.List.{List, [], _∷_, _++_, append-nil}
@@ -12,7 +12,7 @@ use Rattle.card.specs.declared.Card.{Card}
 use Rattle.walk.specs.declared.Walk.{Walk}
 use Rattle.rack.specs.declared.Air.{Air}
 use Rattle.rack.specs.declared.Listened.{Listened}
-use Rattle.rack.specs.Row.{turnOf, stillAir, airWith, rowAir, rowAfter, Listens}
+use Rattle.rack.specs.Row.{stillAir, rowAir, rowAfter, Listens}
 
 pub record Partly (w : Walk) (ys : List Card) (i : ℕ) (row : List Card) (air : Air) : Type 0 where
   pub within : i ≤ length ys

@@ -1,3 +1,5 @@
+-- `rack::play::deal` meets its contract. The loop's invariant: the first i cards are those of the first i UIDs.
+-- Assumes nothing.
 use native.Mathlib.Omega.{arith}
 use borrow.Author.Needs.{needs}
 use Prim.Native.Nat.{_≤_, _-_}
@@ -7,9 +9,6 @@ use Rattle.rack.proofs.Dealt.{dealt-more, dealt-all}
 use Rattle.rack.specs.Row.{cardsOf}
 use Rattle.rack.proofs.play.deal.Statement.{statement}
 use Rattle.rack.proofs.play.deal.Tie as tie
-use Rattle.rack.proofs.play.deal.Reads as reads
-use Rattle.rack.proofs.play.deal.Lts as lts
-use Rattle.rack.proofs.row.card_of.Reads as card-of-reads
 
 abbrev Inv-loop : tie.InvT-loop
 Inv-loop uids row₀ i₀ row i = (i ≤ 100) × ((length row ≡ 100) × (take i row ≡ cardsOf (take i uids)))
@@ -17,44 +16,34 @@ Inv-loop uids row₀ i₀ row i = (i ≤ 100) × ((length row ≡ 100) × (take 
 abbrev μ-loop : tie.MeasureT-loop
 μ-loop uids row₀ i₀ row i = 100 - i
 
--- src/play.rt:68:20
 card-of-requires : tie.Need-card-of-requires Inv-loop μ-loop
 card-of-requires c κs = search needs
 
--- src/play.rt:70:5
 loop-holds : tie.Need-loop-holds Inv-loop μ-loop
 unfolding cardsOf
 loop-holds c = (omega arith, (refl, refl))
 
--- src/play.rt:71:26
 mul-card-of : tie.Need-mul-card-of Inv-loop μ-loop
 mul-card-of c = omega arith
 
--- src/play.rt:71:26
 array-read-card-of : tie.Need-array-read-card-of Inv-loop μ-loop
 array-read-card-of c = omega arith
 
--- src/play.rt:71:18
 card-of-requires-2 : tie.Need-card-of-requires-2 Inv-loop μ-loop
 card-of-requires-2 c κs = search needs
 
--- src/play.rt:71:9
 mul-row : tie.Need-mul-row Inv-loop μ-loop
 mul-row c = omega arith
 
--- src/play.rt:71:9
 array-set-from-row : tie.Need-array-set-from-row Inv-loop μ-loop
 array-set-from-row c = omega arith
 
--- src/play.rt:72:9
 add-i : tie.Need-add-i Inv-loop μ-loop
 add-i c = omega arith
 
--- src/play.rt:70:5
 loop-less : tie.Need-loop-less Inv-loop μ-loop
 loop-less c = omega arith
 
--- src/play.rt:70:5
 loop-again : tie.Need-loop-again Inv-loop μ-loop
 loop-again c =
     let loop = c .before .before .loop in
@@ -62,7 +51,6 @@ loop-again c =
     let all : length uids ≡ 100 = c .before .before .before .before .good .0 .1 .0 .1 in
     (omega arith, (length-set (loop .row) (loop .i) _ ∙ loop .inv .1 .0, dealt-more uids (loop .row) (loop .i) (omega (arith, all)) (omega arith) (loop .inv .1 .1) (c .card-of2 .ensures)))
 
--- src/play.rt:65:1
 returns : tie.Need-returns Inv-loop μ-loop
 returns c =
     let loop = c .before .loop in

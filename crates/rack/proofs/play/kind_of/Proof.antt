@@ -1,21 +1,17 @@
-use borrow.Author.Tests.{eq-eqb, ne-eqb}
+-- `rack::play::kind_of` meets its contract: by the two tests. Assumes nothing.
+use borrow.Author.Tests.{ne-eqb}
 use Rattle.rack.specs.Row.{airKind}
 use Rattle.rack.proofs.play.kind_of.Statement.{statement}
 use Rattle.rack.proofs.play.kind_of.Tie as tie
-use Rattle.rack.proofs.play.kind_of.Reads as reads
-use Rattle.rack.proofs.play.kind_of.Lts as lts
 
--- src/play.rt:30:9
 returns : tie.Need-returns
 unfolding airKind
 returns c = rw (c .if1 .taken)
 
--- src/play.rt:33:9
 returns-2 : tie.Need-returns-2
 unfolding airKind
 returns-2 c = rw (c .if2 .taken)
 
--- src/play.rt:26:1
 returns-3 : tie.Need-returns-3
 unfolding airKind
 returns-3 c = rw (ne-eqb _ _ (c .before .before .if1 .left), ne-eqb _ _ (c .if2 .left))

@@ -1,95 +1,72 @@
+-- `rack::row::air_with` meets its contract: by cases of the reply. Assumes nothing.
 use borrow.Author.Needs.{needs}
 use Rattle.rack.specs.Row.{airWith}
 use Rattle.rack.proofs.row.air_with.Statement.{statement}
 use Rattle.rack.proofs.row.air_with.Tie as tie
-use Rattle.rack.proofs.row.air_with.Reads as reads
-use Rattle.rack.proofs.row.air_with.Lts as lts
-use Rattle.rack.proofs.row.clash.Reads as clash-reads
-use Rattle.rack.proofs.row.present.Reads as present-reads
 
--- src/row.rt:90:27
 enum-told : tie.Need-enum-told
 enum-told c = search needs
 
--- src/row.rt:91:28
 enum-told-2 : tie.Need-enum-told-2
 enum-told-2 c = search needs
 
--- src/row.rt:91:28
 clash-requires : tie.Need-clash-requires
 clash-requires c κs = search needs
 
--- src/row.rt:92:24
 enum-told-3 : tie.Need-enum-told-3
 enum-told-3 c = search needs
 
--- src/row.rt:92:24
 clash-requires-2 : tie.Need-clash-requires-2
 clash-requires-2 c κs = search needs
 
--- src/row.rt:93:27
 enum-told-4 : tie.Need-enum-told-4
 enum-told-4 c = search needs
 
--- src/row.rt:93:27
 present-requires : tie.Need-present-requires
 present-requires c κs = search needs
 
--- src/row.rt:94:35
 enum-told-5 : tie.Need-enum-told-5
 enum-told-5 c = search needs
 
--- src/row.rt:94:35
 clash-requires-3 : tie.Need-clash-requires-3
 clash-requires-3 c κs = search needs
 
--- src/row.rt:95:32
 enum-told-6 : tie.Need-enum-told-6
 enum-told-6 c = search needs
 
--- src/row.rt:95:32
 clash-requires-4 : tie.Need-clash-requires-4
 clash-requires-4 c κs = search needs
 
--- src/row.rt:96:31
 enum-told-7 : tie.Need-enum-told-7
 enum-told-7 c = search needs
 
--- src/row.rt:96:31
 clash-requires-5 : tie.Need-clash-requires-5
 clash-requires-5 c κs = search needs
 
--- src/row.rt:86:1
 returns : tie.Need-returns
 unfolding airWith
 returns c = rw (c .enum-told .given .1)
 
--- src/row.rt:86:1
 returns-2 : tie.Need-returns-2
 unfolding airWith
 returns-2 c = rw (c .before .enum-told2 .given .1, c .clash .ensures)
 
--- src/row.rt:86:1
 returns-3 : tie.Need-returns-3
 unfolding airWith
 returns-3 c = rw (c .before .enum-told3 .given .1, c .clash2 .ensures)
 
--- src/row.rt:86:1
 returns-4 : tie.Need-returns-4
 unfolding airWith
 returns-4 c = rw (c .before .enum-told4 .given .1, c .present .ensures)
 
--- src/row.rt:86:1
 returns-5 : tie.Need-returns-5
 unfolding airWith
 returns-5 c = rw (c .before .enum-told5 .given .1, c .clash3 .ensures)
 
--- src/row.rt:86:1
 returns-6 : tie.Need-returns-6
 unfolding airWith
 returns-6 c = rw (c .before .enum-told6 .given .1, c .clash4 .ensures)
 
--- src/row.rt:86:1
 returns-7 : tie.Need-returns-7
 unfolding airWith
 returns-7 c = rw (c .before .enum-told7 .given .1, c .clash5 .ensures)

@@ -1,11 +1,9 @@
+-- `rack::row::card_of` meets its contract: it is the definition. Assumes nothing.
 use mathlib.Core.Path.{refl}
 use Rattle.rack.specs.Row.{cardOf}
 use Rattle.rack.proofs.row.card_of.Statement.{statement}
 use Rattle.rack.proofs.row.card_of.Tie as tie
-use Rattle.rack.proofs.row.card_of.Reads as reads
-use Rattle.rack.proofs.row.card_of.Lts as lts
 
--- src/row.rt:16:1
 returns : tie.Need-returns
 unfolding cardOf
 returns c = refl

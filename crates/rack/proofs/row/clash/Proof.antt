@@ -1,11 +1,9 @@
+-- `rack::row::clash` meets its contract: it is the definition. Assumes nothing.
 use mathlib.Core.Path.{refl}
 use Rattle.rack.specs.Row.{crowded}
 use Rattle.rack.proofs.row.clash.Statement.{statement}
 use Rattle.rack.proofs.row.clash.Tie as tie
-use Rattle.rack.proofs.row.clash.Reads as reads
-use Rattle.rack.proofs.row.clash.Lts as lts
 
--- src/row.rt:62:1
 returns : tie.Need-returns
 unfolding crowded
 returns c = refl
