@@ -1,3 +1,10 @@
+mod Sent
+mod Answer
+mod RowPart
+mod Dealt
+mod Played
+mod LocalRow
+mod Values
 pub mod CardTurned
 pub mod RowTurned
 pub mod SlotsAlike

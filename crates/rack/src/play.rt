@@ -2,10 +2,10 @@
 ghost use mathlib.Core.Path.{_≡_};
 ghost use mathlib.Core.Bool.{_&&_};
 ghost use lib.Dec.{ltb, eqb};
-ghost use lib.ListN.{take, getD};
+ghost use lib.ListN.{take};
 ghost use Prim.Native.Nat.{_≤_};
-ghost use Rattle.rack.specs.Row.{airKind, deskAfter, dealt};
-ghost use Rattle.rack.specs.Bench.{freshDesk, ended, PlaysRow};
+ghost use Rattle.rack.specs.Row.{airKind, deskAfter, cardsOf};
+ghost use Rattle.rack.specs.Bench.{freshDesk, ended};
 use crate::Air;
 use crate::Desk;
 use crate::row::card_of;
@@ -46,8 +46,9 @@ fn hear(desk: Desk, air: Air) -> Desk
     let walk = desk.walk;
     let mut list = desk.list;
     let heard = walk.hear(kind_of(air), &bytes, &mut list);
+    let next = heard.walk;
     Desk {
-        walk: heard.walk,
+        walk: next,
         list: list,
     }
 }
@@ -60,36 +61,17 @@ fn goes_on(desk: Desk, n: u32) -> bool
     if n < 7696 { walk.ending == 0 } else { false }
 }
 
-// A fresh walk over the row, to its end.
-fn play_row(row: &mut [Card]) -> Desk
-    ensures { λ r. ⌜ PlaysRow (now (row .entry)) r ⌝ }
+// The cards of the UIDs, one at each place.
+fn deal(uids: [u64; 100]) -> [Card; 100]
+    ensures { λ r. ⌜ r ≡ cardsOf uids ⌝ }
 {
-    let mut desk = fresh();
-    let mut n = 0;
-    while goes_on(desk, n) {
-        let air = listen_row(row, desk.walk);
-        desk = hear(desk, air);
-        n += 1;
-    }
-    desk
-}
-
-// A UID of those, or 0 past them.
-fn uid_at(uids: [u64; 100], i: usize) -> u64
-    ensures { λ r. ⌜ r ≡ getD uids i 0 ⌝ }
-{
-    if i < 100 { uids[i] } else { 0 }
-}
-
-// The cards of so many UIDs take their places.
-fn deal(row: &mut [Card], uids: [u64; 100])
-    ensures { λ _. ⌜ now (row .exit) ≡ dealt uids (now (row .entry)) ⌝ }
-{
+    let mut row = [card_of(0); 100];
     let mut i = 0;
-    while i < row.len() {
-        row[i] = card_of(uid_at(uids, i));
+    while i < 100 {
+        row[i] = card_of(uids[i]);
         i += 1;
     }
+    row
 }
 
 // A fresh walk over the cards of n UIDs, to its end.
@@ -97,8 +79,13 @@ pub(crate) fn play(uids: [u64; 100], n: usize) -> Desk
     requires { ⌜ n ≤ 100 ⌝ }
     ensures { λ r. ⌜ r ≡ ended (take n uids) ⌝ }
 {
-    let mut row = [card_of(0); 100];
-    let part = &mut row[..n];
-    deal(part, uids);
-    play_row(part)
+    let mut row = deal(uids);
+    let mut desk = fresh();
+    let mut slot = 0;
+    while goes_on(desk, slot) {
+        let air = listen_row(&mut row[..n], desk.walk);
+        desk = hear(desk, air);
+        slot += 1;
+    }
+    desk
 }

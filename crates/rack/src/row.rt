@@ -1,6 +1,6 @@
 // The row of cards: each slot, what the walk sends reaches every card, and what they answer is in the air.
 ghost use mathlib.Core.Path.{_≡_};
-ghost use Rattle.rack.specs.Row.{cardOf, turnOf, stillAir, crowded, airWith, Listens, HearsRow};
+ghost use Rattle.rack.specs.Row.{cardOf, turnOf, crowded, airWith, Listens, HearsRow};
 use crate::Air;
 use crate::Listened;
 use card::Card;
@@ -45,16 +45,6 @@ fn turn(card: Card, walk: Walk) -> Turn
         },
         Send::Mark => card.hear_mark(),
         Send::Request(n) => card.hear_inventory(&room[..n]),
-    }
-}
-
-fn still() -> Air
-    ensures { λ r. ⌜ r ≡ stillAir ⌝ }
-{
-    Air {
-        answers: 0,
-        dsfid: 0,
-        uid: 0,
     }
 }
 
@@ -113,7 +103,11 @@ fn listen(card: Card, walk: Walk, air: Air) -> Listened
 pub(crate) fn listen_row(row: &mut [Card], walk: Walk) -> Air
     ensures { λ r. ⌜ HearsRow walk (now (row .entry)) r (now (row .exit)) ⌝ }
 {
-    let mut air = still();
+    let mut air = Air {
+        answers: 0,
+        dsfid: 0,
+        uid: 0,
+    };
     let mut i = 0;
     while i < row.len() {
         let heard = listen(row[i], walk, air);

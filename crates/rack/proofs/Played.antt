@@ -1,0 +1,70 @@
+-- Slots that have been played: what the rest of them makes of the desk and the row is what all make of them from the start. An ended walk stays as it is.
+--     ended-stays, played-ended    hearing is refused.        playing-none, playing-more, playing-over     none played, one more, and no more to play
+-- Assumes nothing.
+use Prim.Native.Nat.{ℕ, zero, suc, _+_, _-_, _≤_, _<_}
+use native.Mathlib.Omega.{arith}
+use mathlib.Core.Bool.{Bool, true, false, cond, _&&_}
+use mathlib.Core.List.{List}
+use mathlib.Core.Path.{_≡_, refl, sym, _∙_, ap, subst}
+use borrow.Author.Tests.{ltb-false, eqb-false, ne-eqb}
+use lib.Dec.{T, ltb, eqb}
+use Rattle.card.specs.declared.Card.{Card}
+use Rattle.walk.specs.declared.Walk.{Walk}
+use Rattle.walk.specs.declared.Kind.{Kind}
+use Rattle.walk.specs.Record.{isAccepted, isRunning}
+use Rattle.walk.specs.Hear.{Hearing, refusal, hearing}
+use Rattle.rack.specs.declared.Air.{Air}
+use Rattle.rack.specs.declared.Desk.{Desk}
+use Rattle.rack.specs.Row.{stillAir, rowAir, rowAfter, airKind, airBytes, deskAfter, slotPlayed, playedFor, cardsOf}
+use Rattle.rack.specs.Bench.{freshDesk, ended}
+
+hearing-ended : (w : Walk) (kind : Kind) (bytes list : List ℕ) → (w .ending ≡ 0 → ⊥) → hearing w kind bytes list ≡ record { walk = w; list = list; number = cond (isAccepted w) 6 10 }
+unfolding hearing refusal isRunning
+hearing-ended w kind bytes list h = go (isAccepted w) refl
+  where
+    go : (a : Bool) → isAccepted w ≡ a → hearing w kind bytes list ≡ record { walk = w; list = list; number = cond (isAccepted w) 6 10 }
+    go true e = rw (ne-eqb (w .ending) 0 h, e)
+    go false e = rw (ne-eqb (w .ending) 0 h, e)
+
+pub ended-stays : (d : Desk) (air : Air) → (d .walk .ending ≡ 0 → ⊥) → deskAfter d air ≡ d
+unfolding deskAfter
+ended-stays d air h = ap (λ (x : Hearing). record { walk = x .walk; list = x .list }) (hearing-ended (d .walk) (airKind air) (airBytes air) (d .list) h)
+
+pub played-ended : (m : ℕ) (d : Desk) (row : List Card) → (d .walk .ending ≡ 0 → ⊥) → playedFor m (record { desk = d; row = row }) .desk ≡ d
+unfolding playedFor slotPlayed
+played-ended zero d row h = refl
+played-ended (suc m) d row h =
+    ap (λ (e : Desk). playedFor m (record { desk = e; row = rowAfter (d .walk) row }) .desk) (ended-stays d (rowAir (d .walk) stillAir row) h) ∙ played-ended m d (rowAfter (d .walk) row) h
+
+pub record Playing (us : List ℕ) (k : ℕ) (desk : Desk) (row : List Card) : Type 0 where
+  pub slots : k ≤ 7696
+  pub desk-left : playedFor (7696 - k) (record { desk = desk; row = row }) .desk ≡ ended us
+
+pub playing-none : (us : List ℕ) (desk : Desk) (row : List Card) → desk ≡ freshDesk → row ≡ cardsOf us → Playing us 0 desk row
+unfolding ended
+playing-none us desk row d r = record { slots = omega arith; desk-left = λ i. playedFor 7696 (record { desk = d i; row = r i }) .desk }
+
+module _ (us : List ℕ) (k : ℕ) (desk : Desk) (row : List Card) (p : Playing us k desk row) where
+  pub playing-more : (air : Air) (next : Desk) (left : List Card) → k < 7696 → air ≡ rowAir (desk .walk) stillAir row → left ≡ rowAfter (desk .walk) row → next ≡ deskAfter desk air → Playing us (k + 1) next left
+  unfolding playedFor slotPlayed
+  playing-more air next left l a r d =
+      record {
+        slots = omega (arith, l);
+        desk-left = (λ i. playedFor (7696 - (k + 1)) (record { desk = (d ∙ ap (λ (x : Air). deskAfter desk x) a) i; row = r i }) .desk)
+            ∙ ap (λ (m : ℕ). playedFor m (record { desk = desk; row = row }) .desk) one ∙ p .desk-left;
+      }
+    where
+      one : suc (7696 - (k + 1)) ≡ 7696 - k
+      one = omega (arith, l)
+
+  pub playing-over : (ltb k 7696 && eqb (desk .walk .ending) 0) ≡ false → desk ≡ ended us
+  unfolding playedFor
+  playing-over e = go (ltb k 7696) (eqb (desk .walk .ending) 0) refl refl e
+    where
+      spent : 7696 ≤ k → 0 ≡ 7696 - k
+      spent h = omega (arith, h)
+
+      go : (a b : Bool) → ltb k 7696 ≡ a → eqb (desk .walk .ending) 0 ≡ b → (a && b) ≡ false → desk ≡ ended us
+      go true true f g e = absurd (subst T e tt)
+      go true false f g e = sym (played-ended (7696 - k) desk row (eqb-false (desk .walk .ending) 0 g)) ∙ p .desk-left
+      go false b f g e = ap (λ (m : ℕ). playedFor m (record { desk = desk; row = row }) .desk) (spent (ltb-false k 7696 f)) ∙ p .desk-left
