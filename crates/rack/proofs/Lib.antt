@@ -1,0 +1,2 @@
+mod LineWays
+mod Reading

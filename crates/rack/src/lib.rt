@@ -1,4 +1,5 @@
 // The bench: a rack of cards on the desk, a walk that reads it, and what is printed of it.
+mod input;
 mod play;
 mod row;
 
