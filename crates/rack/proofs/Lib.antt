@@ -1,2 +1,3 @@
 mod LineWays
+mod Printing
 mod Reading

@@ -1,5 +1,6 @@
 // The bench: a rack of cards on the desk, a walk that reads it, and what is printed of it.
 mod input;
+mod output;
 mod play;
 mod row;
 
