@@ -15,6 +15,7 @@ use lib.Seq.{take-suc, length-take-le}
 use Rattle.lent.specs.Lent.{over, placed}
 use Rattle.lent.specs.Puts.{Puts, PutsAt}
 use Rattle.lent.proofs.Over.{placed-none, placed-placed, placed-start, set-placed, length-placed}
+use Rattle.rack.specs.declared.Desk.{Desk}
 use Rattle.rack.specs.Output.{word, digit, decimal, hexDigits, uidLines, report, complaint}
 
 -- ---- pieces one after another
@@ -187,5 +188,15 @@ named-end name n p =
 pub lines-most : (n : ℕ) (list : List ℕ) → length (uidLines (take n list)) ≤ 17 * n
 lines-most n list = rw (length-lines, length-take) (omega arith)
 
-pub puts-regroup : {at r : ℕ} {e f : List ℕ} (s v u : List ℕ) → PutsAt at (s ++ v ++ u) e r f → PutsAt at (s ++ (v ++ u)) e r f
-puts-regroup s v u p = rw (← (append-assoc s v u)) p
+-- the first line, a name before a number, and the whole
+pub puts-report : {v r c n t : ℕ} {e f g h i k : List ℕ} (d : Desk)
+    → PutsAt 0 (0x76 ∷ 0x65 ∷ 0x72 ∷ 0x64 ∷ 0x69 ∷ 0x63 ∷ 0x74 ∷ 0x20 ∷ word (d .walk .ending)) e v f
+    → PutsAt v (0x0a ∷ 0x72 ∷ 0x6f ∷ 0x75 ∷ 0x6e ∷ 0x64 ∷ 0x73 ∷ 0x20 ∷ decimal (d .walk .rounds)) f r g
+    → PutsAt r (0x0a ∷ 0x63 ∷ 0x61 ∷ 0x72 ∷ 0x64 ∷ 0x73 ∷ 0x20 ∷ decimal (d .walk .count)) g c h → PutsAt c (0x0a ∷ []) h n i
+    → PutsAt n (uidLines (take (d .walk .count) (d .list))) i t k → t ≤ length e → Puts (report d) e t k
+unfolding report
+puts-report {v} {r} {c} {n} {t} {e} d p q s w u room =
+    let list : List ℕ = uidLines (take (d .walk .count) (d .list)) in
+    let before = puts-then (puts-then p q (omega (arith, q .next, s .next, w .next, u .next))) s (omega (arith, s .next, w .next, u .next)) in
+    let all = puts-then (puts-then before w (omega (arith, w .next, u .next))) u (omega (arith, u .next)) in
+    puts-start (rw (← (append-assoc _ (0x0a ∷ []) list)) all)

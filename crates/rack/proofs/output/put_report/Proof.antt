@@ -1,7 +1,6 @@
 use borrow.Author.Needs.{needs}
 use native.Mathlib.Omega.{arith}
-use Rattle.rack.specs.Output.{report}
-use Rattle.rack.proofs.Printing.{puts-then, puts-start, puts-regroup, lines-most}
+use Rattle.rack.proofs.Printing.{lines-most, puts-report}
 use Rattle.walk.proofs.Limits.{accepted-of-is-accepted}
 use Rattle.rack.proofs.output.put_report.Statement.{statement}
 use Rattle.rack.proofs.output.put_report.Tie as tie
@@ -62,8 +61,17 @@ same-length c = search needs
 
 -- src/output.rt:132:1
 returns : tie.Need-returns
-unfolding report
-returns c = let room = c .before .before .before .before .before .before .before .before .before .before .before .before .before .before .before .before .before .before .before .before .before .before .before .before .before .before .before .pre .1 in let fits = accepted-of-is-accepted (c .before .before .before .before .before .before .before .before .before .before .before .before .before .before .before .before .before .before .before .before .before .before .before .before .before .before .before .args .desk .walk) (c .before .before .before .before .before .before .before .before .before .before .before .before .before .before .before .before .before .before .before .before .before .before .before .before .before .before .before .pre .0) in let few = lines-most (c .before .before .before .before .before .before .before .before .before .before .before .before .before .before .before .before .before .before .before .before .before .before .before .before .before .before .before .args .desk .walk .count) (c .before .before .before .before .before .before .before .before .before .before .before .before .before .before .before .before .before .before .before .before .before .before .before .before .before .before .before .args .desk .list) in let p = c .before .before .before .before .before .before .before .before .before .before .before .before .before .before .before .before .before .before .before .before .before .before .put-verdict .ensures in let q = c .before .before .before .before .before .before .before .before .before .before .before .before .before .before .before .before .put-named .ensures in let t = c .before .before .before .before .before .before .before .before .before .before .before .put-named2 .ensures in let v = c .before .before .before .before .before .before .put-bytes .ensures in let u = c .before .before .put-list .ensures in puts-start (puts-regroup _ _ _ (puts-then (puts-then (puts-then (puts-then (p .0) (q .0) (omega (arith, room, q .0 .next, q .1, p .1))) (t .0) (omega (arith, room, t .0 .next, t .1, q .1, p .1))) v (omega (arith, room, t .1, q .1, p .1))) u (omega (arith, room, few, fits .count, v .next, t .1, q .1, p .1))))
+returns c =
+    let args = c .before .before .before .before .before .before .before .before .before .before .before .before .before .before .before .before .before .before .before .before .before .before .before .before .before .before .before .args in
+    let pre = c .before .before .before .before .before .before .before .before .before .before .before .before .before .before .before .before .before .before .before .before .before .before .before .before .before .before .before .pre in
+    let p = c .before .before .before .before .before .before .before .before .before .before .before .before .before .before .before .before .before .before .before .before .before .before .put-verdict .ensures in
+    let q = c .before .before .before .before .before .before .before .before .before .before .before .before .before .before .before .before .put-named .ensures in
+    let t = c .before .before .before .before .before .before .before .before .before .before .before .put-named2 .ensures in
+    let v = c .before .before .before .before .before .before .put-bytes .ensures in
+    let u = c .before .before .put-list .ensures in
+    let fits = accepted-of-is-accepted (args .desk .walk) (pre .0) in
+    let few = lines-most (args .desk .walk .count) (args .desk .list) in
+    puts-report (args .desk) (p .0) (q .0) (t .0) v u (omega (arith, pre .1, few, fits .count, p .1, q .1, t .1, v .next, u .next))
 
 pub put-report-spec : {M : Type 1} → statement M
 put-report-spec =
