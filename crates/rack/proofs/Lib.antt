@@ -1,3 +1,4 @@
+mod BenchWays
 mod LineWays
 mod Printing
 mod Reading

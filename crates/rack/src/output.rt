@@ -133,6 +133,7 @@ pub(crate) fn put_report(desk: Desk, out: &mut [u8]) -> usize
     requires { ⌜ isAccepted (desk .walk) ≡ true ⌝ }
     requires { ⌜ 1200 ≤ length (now out) ⌝ }
     ensures { λ r. ⌜ Puts (report desk) (now (out .entry)) r (now (out .exit)) ⌝ }
+    ensures { λ r. ⌜ r ≤ 1200 ⌝ }
 {
     let walk = desk.walk;
     let list = desk.list;
@@ -149,6 +150,7 @@ pub(crate) fn put_complaint(n: usize, out: &mut [u8]) -> usize
     requires { ⌜ n < 1000 ⌝ }
     requires { ⌜ 1200 ≤ length (now out) ⌝ }
     ensures { λ r. ⌜ Puts (complaint n) (now (out .entry)) r (now (out .exit)) ⌝ }
+    ensures { λ r. ⌜ r ≤ 1200 ⌝ }
 {
     let at = put_named(b"bad line ", n as u64, out, 0);
     put_bytes(b"\n", out, at)

@@ -32,7 +32,7 @@ same-length c = search needs
 -- src/output.rt:148:1
 returns : tie.Need-returns
 unfolding complaint
-returns c = puts-start (puts-then (c .before .before .before .before .before .before .before .put-named .ensures .0) (c .before .before .put-bytes .ensures) (omega arith))
+returns c = (puts-start (puts-then (c .before .before .before .before .before .before .before .put-named .ensures .0) (c .before .before .put-bytes .ensures) (omega arith)), omega (arith, c .before .before .before .before .before .before .before .put-named .ensures .1, c .before .before .put-bytes .ensures .next))
 
 pub put-complaint-spec : {M : Type 1} → statement M
 put-complaint-spec =

@@ -1,5 +1,6 @@
 use borrow.Author.Needs.{needs}
 use native.Mathlib.Omega.{arith}
+use Prim.Native.Nat.{_≤_}
 use Rattle.rack.proofs.Printing.{lines-most, puts-report}
 use Rattle.walk.proofs.Limits.{accepted-of-is-accepted}
 use Rattle.rack.proofs.output.put_report.Statement.{statement}
@@ -71,7 +72,8 @@ returns c =
     let u = c .before .before .put-list .ensures in
     let fits = accepted-of-is-accepted (args .desk .walk) (pre .0) in
     let few = lines-most (args .desk .walk .count) (args .desk .list) in
-    puts-report (args .desk) (p .0) (q .0) (t .0) v u (omega (arith, pre .1, few, fits .count, p .1, q .1, t .1, v .next, u .next))
+    let most : c .before .before .put-list .result ≤ 1200 = omega (arith, few, fits .count, p .1, q .1, t .1, v .next, u .next) in
+    (puts-report (args .desk) (p .0) (q .0) (t .0) v u (omega (arith, pre .1, most)), most)
 
 pub put-report-spec : {M : Type 1} → statement M
 put-report-spec =
