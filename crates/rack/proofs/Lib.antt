@@ -10,3 +10,7 @@ pub mod RowTurned
 pub mod SlotsAlike
 pub mod Meaning
 pub mod InputMeaning
+mod BenchWays
+mod LineWays
+mod Printing
+mod Reading

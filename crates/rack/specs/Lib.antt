@@ -1,4 +1,5 @@
 pub mod Input
+pub mod Lines
 pub mod Row
 pub mod Output
 pub mod Bench

@@ -1,4 +1,7 @@
 // The bench: a rack of cards on the desk, a walk that reads it, and what is printed of it.
+pub mod bench;
+mod input;
+mod output;
 mod play;
 mod row;
 

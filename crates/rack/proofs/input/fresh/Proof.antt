@@ -1,0 +1,14 @@
+use mathlib.Core.Path.{refl}
+use Rattle.rack.specs.Lines.{noLines, freshLines}
+use Rattle.rack.proofs.input.fresh.Statement.{statement}
+use Rattle.rack.proofs.input.fresh.Tie as tie
+use Rattle.rack.proofs.input.fresh.Reads as reads
+use Rattle.rack.proofs.input.fresh.Lts as lts
+
+-- src/input.rt:16:1
+returns : tie.Need-returns
+unfolding noLines freshLines
+returns c = refl
+
+pub fresh-spec : {M : Type 1} → statement M
+fresh-spec = tie.close (tie.spec returns)

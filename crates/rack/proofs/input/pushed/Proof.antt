@@ -1,0 +1,23 @@
+use borrow.Author.Needs.{needs}
+use mathlib.Core.Path.{refl}
+use Rattle.rack.specs.Lines.{pushed}
+use Rattle.rack.proofs.input.pushed.Statement.{statement}
+use Rattle.rack.proofs.input.pushed.Tie as tie
+use Rattle.rack.proofs.input.pushed.Reads as reads
+use Rattle.rack.proofs.input.pushed.Lts as lts
+
+-- src/input.rt:89:17
+add-t4 : tie.Need-add-t4
+add-t4 c = search needs
+
+-- src/input.rt:90:17
+add-t6 : tie.Need-add-t6
+add-t6 c = search needs
+
+-- src/input.rt:80:1
+returns : tie.Need-returns
+unfolding pushed
+returns c = refl
+
+pub pushed-spec : {M : Type 1} → statement M
+pushed-spec = tie.close (tie.spec add-t4 add-t6 returns)

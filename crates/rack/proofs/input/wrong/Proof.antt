@@ -1,0 +1,19 @@
+use borrow.Author.Needs.{needs}
+use mathlib.Core.Path.{refl}
+use Rattle.rack.specs.Lines.{wrong}
+use Rattle.rack.proofs.input.wrong.Statement.{statement}
+use Rattle.rack.proofs.input.wrong.Tie as tie
+use Rattle.rack.proofs.input.wrong.Reads as reads
+use Rattle.rack.proofs.input.wrong.Lts as lts
+
+-- src/input.rt:58:14
+add-t3 : tie.Need-add-t3
+add-t3 c = search needs
+
+-- src/input.rt:48:1
+returns : tie.Need-returns
+unfolding wrong
+returns c = refl
+
+pub wrong-spec : {M : Type 1} → statement M
+wrong-spec = tie.close (tie.spec add-t3 returns)

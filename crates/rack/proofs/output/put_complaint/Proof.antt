@@ -1,0 +1,46 @@
+use borrow.Author.Needs.{needs}
+use native.Mathlib.Omega.{arith}
+use Rattle.rack.specs.Output.{complaint}
+use Rattle.rack.proofs.Printing.{puts-then, puts-start}
+use Rattle.rack.proofs.output.put_complaint.Statement.{statement}
+use Rattle.rack.proofs.output.put_complaint.Tie as tie
+use Rattle.rack.proofs.output.put_complaint.Reads as reads
+use Rattle.rack.proofs.output.put_complaint.Lts as lts
+use Rattle.rack.proofs.output.put_bytes.Reads as put-bytes-reads
+use Rattle.rack.proofs.output.put_named.Reads as put-named-reads
+
+-- src/output.rt:153:24
+slice-aggregate-put-named : tie.Need-slice-aggregate-put-named
+slice-aggregate-put-named c = search needs
+
+-- src/output.rt:153:9
+put-named-requires : tie.Need-put-named-requires
+put-named-requires c κs = search needs
+
+-- src/output.rt:154:15
+slice-aggregate-put-bytes : tie.Need-slice-aggregate-put-bytes
+slice-aggregate-put-bytes c = search needs
+
+-- src/output.rt:154:5
+put-bytes-requires : tie.Need-put-bytes-requires
+put-bytes-requires c κs = search needs
+
+-- src/output.rt:148:1
+same-length : tie.Need-same-length
+same-length c = search needs
+
+-- src/output.rt:148:1
+returns : tie.Need-returns
+unfolding complaint
+returns c = (puts-start (puts-then (c .before .before .before .before .before .before .before .put-named .ensures .0) (c .before .before .put-bytes .ensures) (omega arith)), omega (arith, c .before .before .before .before .before .before .before .put-named .ensures .1, c .before .before .put-bytes .ensures .next))
+
+pub put-complaint-spec : {M : Type 1} → statement M
+put-complaint-spec =
+    tie.close
+    (tie.spec
+    slice-aggregate-put-named
+    put-named-requires
+    slice-aggregate-put-bytes
+    put-bytes-requires
+    same-length
+    returns)
