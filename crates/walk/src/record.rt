@@ -119,9 +119,9 @@ impl Walk {
         )
     }
 
-    pub(crate) fn counted(self) -> Walk
-        requires { ⌜ self .count < 64 ⌝ }
-        ensures { λ r. ⌜ r ≡ counted self ⌝ }
+    // So many UIDs listed.
+    pub(crate) fn with_count(self, count: u8) -> Walk
+        ensures { λ r. ⌜ r ≡ remade self (self .mask) (self .marks) (self .rounds) (self .level) (self .slot) count (self .ending) ⌝ }
     {
         let marks = self.marks;
         self.remade(
@@ -130,9 +130,16 @@ impl Walk {
             self.rounds,
             self.level,
             self.slot,
-            self.count + 1,
+            count,
             self.ending,
         )
+    }
+
+    pub(crate) fn counted(self) -> Walk
+        requires { ⌜ self .count < 64 ⌝ }
+        ensures { λ r. ⌜ r ≡ counted self ⌝ }
+    {
+        self.with_count(self.count + 1)
     }
 
     pub(crate) fn marked(self) -> Walk

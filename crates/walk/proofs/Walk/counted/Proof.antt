@@ -1,18 +1,18 @@
--- `walk::Walk::counted` meets its contract: one way to make the record anew. Assumes nothing.
+-- `walk::Walk::counted` meets its contract: one more than were listed. Assumes nothing.
 use borrow.Author.Needs.{needs}
 use Rattle.walk.specs.Record.{counted}
 use Rattle.walk.proofs.Walk.counted.Statement.{statement}
 use Rattle.walk.proofs.Walk.counted.Tie as tie
 
-add-remade : tie.Need-add-remade
-add-remade c = search needs
+add-with-count : tie.Need-add-with-count
+add-with-count c = search needs
 
-remade-requires : tie.Need-remade-requires
-remade-requires c κs = search needs
+with-count-requires : tie.Need-with-count-requires
+with-count-requires c κs = search needs
 
 returns : tie.Need-returns
 unfolding counted
-returns c = c .remade .ensures
+returns c = c .with-count .ensures
 
 pub counted-spec : {M : Type 1} → statement M
-counted-spec = tie.close (tie.spec add-remade remade-requires returns)
+counted-spec = tie.close (tie.spec add-with-count with-count-requires returns)

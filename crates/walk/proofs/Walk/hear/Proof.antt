@@ -9,12 +9,15 @@ use Rattle.walk.proofs.Walk.hear.Tie as tie
 refusal-requires : tie.Need-refusal-requires
 refusal-requires c κs = search needs
 
+refuse-requires : tie.Need-refuse-requires
+refuse-requires c κs = search needs
+
 returns : tie.Need-returns
 returns c =
-    let args = c .before .before .before .before .args in
-    let refusal = c .before .refusal in
-    let first = c .if1 in
-    hears-refused (args .self) (args .kind) (args .bytes .now) (args .list .now) _ (refusal .ensures) (first .taken)
+    let args = c .before .before .before .before .before .args in
+    let refusal = c .before .before .refusal in
+    let first = c .before .if1 in
+    hears-refused (args .self) (args .kind) (args .bytes .now) (args .list .now) _ _ (refusal .ensures) (first .taken) (c .refuse .ensures)
 
 judge-requires : tie.Need-judge-requires
 judge-requires c κs =
@@ -48,4 +51,4 @@ returns-2 c =
 pub hear-spec : {M : Type 1} → statement M
 hear-spec =
     tie.close
-    (tie.spec refusal-requires returns judge-requires take-requires same-length returns-2)
+    (tie.spec refusal-requires refuse-requires returns judge-requires take-requires same-length returns-2)
