@@ -6,7 +6,8 @@ c99 := -std=c99 -Wall -Wextra -Werror -pedantic
 .PHONY: help lib demo tag test compare bench
 
 help:
-	@echo 'make demo     build the library, code an inventory request from C and decode it back'
+	@echo 'make demo     build the bench and play the rules page'\''s field of three tags'
+	@echo 'make demo-c   build the library, code an inventory request from C and decode it back'
 	@echo 'make tag      play a tag from C: inventory, read, write, slot mark'
 	@echo 'make lib      prove the library and write $(lib)'
 	@echo 'make test     the whole gate: every proof, every must-fail edit, every comparison'
@@ -16,7 +17,11 @@ help:
 lib:
 	rt staticlib board
 
-demo: lib
+demo:
+	rt check bench
+	target/bin/bench <examples/fields/three.txt
+
+demo-c: lib
 	mkdir -p target/c
 	$(CC) $(c99) -O2 -Iinclude -o target/c/demo examples/inventory.c $(lib)
 	target/c/demo
