@@ -1,7 +1,7 @@
 mod Sent
 mod Answer
 mod RowPart
-mod Dealt
-mod Played
+pub mod Dealt
+pub mod Played
 mod LocalRow
 mod Values
