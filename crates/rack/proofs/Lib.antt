@@ -1,8 +1,8 @@
 mod Sent
 mod Answer
 mod RowPart
-mod Dealt
-mod Played
+pub mod Dealt
+pub mod Played
 mod LocalRow
 mod Values
 pub mod CardTurned
