@@ -98,7 +98,7 @@ fn longer(lines: Lines, b: u8) -> Lines
     ensures { λ r. ⌜ r ≡ longer lines b ⌝ }
 {
     let d = digit_of(b);
-    if lines.count == 100 {
+    if lines.count >= 100 {
         return wrong(lines);
     }
     if lines.digits >= 16 {
