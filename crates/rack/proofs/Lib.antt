@@ -14,3 +14,4 @@ mod BenchWays
 mod LineWays
 mod Printing
 mod Reading
+pub mod Start
