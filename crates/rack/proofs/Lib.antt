@@ -15,3 +15,4 @@ mod LineWays
 mod Printing
 mod Reading
 pub mod Start
+pub mod Examples

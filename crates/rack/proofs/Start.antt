@@ -11,7 +11,6 @@ use lib.Dec.{leb, eqb}
 use lib.ListN.{length, take, length-append}
 use lib.Seq.{take-all}
 use Rattle.rack.specs.Input.{linesFrom, lines, isUid, badFrom, badLine}
-use Rattle.rack.specs.Output.{complaint}
 use Rattle.rack.specs.Bench.{printed}
 use Rattle.rack.proofs.Reading.{isGood, bad-line-dead, dead-101, dead-17}
 
