@@ -4,6 +4,7 @@ use libc::STDIN_FILENO;
 use libc::STDOUT_FILENO;
 
 fn main() {
+    // 4096 bytes, more than the 1701 that settle what is printed (printed-of-start, crates/rack/proofs/Start.antt)
     let mut input = io::buffer();
     let n = io::read_full(STDIN_FILENO, &mut input);
     let mut out = [0u8; 1200];

@@ -14,3 +14,5 @@ mod BenchWays
 mod LineWays
 mod Printing
 mod Reading
+pub mod Start
+pub mod Examples

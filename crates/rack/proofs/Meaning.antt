@@ -43,13 +43,13 @@ tag-obeys : (uid : ℕ) → uid < 2 ^ 64 → Obeys (tagOf uid)
 unfolding tagOf cardOf isAccepted shapeFits sequenceFits heldFits
 tag-obeys uid h = record { accepted = byte-served (cardOf uid) 32 refl refl refl (omega arith); uid-fits = h }
 
-tags-obey : (us : List ℕ) → ((i : ℕ) → getD us i 0 < 2 ^ 64) → AllObey (tagsOf us)
+pub tags-obey : (us : List ℕ) → ((i : ℕ) → getD us i 0 < 2 ^ 64) → AllObey (tagsOf us)
 unfolding tagsOf
 tags-obey [] h = none
 tags-obey (u ∷ us) h = more (tag-obeys u (h 0)) (tags-obey us (λ i. h (suc i)))
 
 -- "cards Ready, no family": every card answers
-tags-answer : (us : List ℕ) → answering 256 (tagsOf us) ≡ us
+pub tags-answer : (us : List ℕ) → answering 256 (tagsOf us) ≡ us
 unfolding tagsOf tagOf cardOf answering answers listens familyFits
 tags-answer [] = refl
 tags-answer (u ∷ us) = ap (λ (vs : List ℕ). u ∷ vs) (tags-answer us)

@@ -40,14 +40,14 @@ and-false : (a : Bool) → (a && false) ≡ false
 and-false true = refl
 and-false false = refl
 
-unfoldable isGood : ℕ → List ℕ → Bool
+unfoldable pub isGood : ℕ → List ℕ → Bool
 isGood n line = leb n 100 && isUid line
 
 ends-dead : (n : ℕ) (line : List ℕ) → ((rest : List ℕ) → isGood n (line ++ rest) ≡ false) → (leb n 100 && isUid line) ≡ false
 unfolding isGood
 ends-dead n line dead = ap (λ (l : List ℕ). leb n 100 && isUid l) (sym (append-nil line)) ∙ dead []
 
-bad-line-dead : (n : ℕ) (line bs : List ℕ) → (length line ≡ 0 → ⊥) → ((rest : List ℕ) → isGood n (line ++ rest) ≡ false)
+pub bad-line-dead : (n : ℕ) (line bs : List ℕ) → (length line ≡ 0 → ⊥) → ((rest : List ℕ) → isGood n (line ++ rest) ≡ false)
     → badFrom n (linesFrom line bs) ≡ n
 unfolding badFrom linesFrom
 bad-line-dead n line [] some dead = rw (ne-eqb (length line) 0 some, ends-dead n line dead)
@@ -60,11 +60,11 @@ bad-line-dead n line (b ∷ bs) some dead =
     by true e = rw (ends-dead n line dead)
     by false e = e
 
-dead-101 : (n : ℕ) (line : List ℕ) → 100 < n → isGood n line ≡ false
+pub dead-101 : (n : ℕ) (line : List ℕ) → 100 < n → isGood n line ≡ false
 unfolding isGood
 dead-101 n line h = rw (lt-leb n 100 h)
 
-dead-17 : (n : ℕ) (line rest : List ℕ) → 16 < length line → isGood n (line ++ rest) ≡ false
+pub dead-17 : (n : ℕ) (line rest : List ℕ) → 16 < length line → isGood n (line ++ rest) ≡ false
 unfolding isGood isUid
 dead-17 n line rest h = rw (length-append, ne-eqb (length line + length rest) 16 (λ e. absurd (omega arith)), and-false)
 

@@ -1,0 +1,100 @@
+-- 01's bench field: what is printed for the page's three lines is the page's printed text, byte for byte, with and without the last 0A. The bench's
+-- walk is that of a field, which ends complete after 2 rounds, 05, 11 and 21 listed. Assumes nothing.
+use mathlib.Core.Path.{_≡_, refl, sym, ap, _∙_}
+use Prim.Native.Nat.{ℕ, zero, suc, _*_, _^_, _<_}
+use native.Mathlib.Omega.{arith}
+use mathlib.Core.List.{List, [], _∷_, _++_}
+use lib.ListN.{take, getD}
+use Rattle.walk.specs.declared.Walk.{Walk}
+use Rattle.field.specs.Played.{Play}
+use Rattle.field.specs.Played as field
+use Rattle.field.specs.Demand.{listed}
+use Rattle.field.proofs.Examples.{three, threeEnd, field-of-three}
+use Rattle.rack.specs.Row.{Played, noBytes}
+use Rattle.rack.specs.Input.{linesFrom, lines, digitOf, allDigits, isUid, numberFrom, uidOf, badFrom, badLine, uidsOf, uids}
+use Rattle.rack.specs.Output.{word, digit, decimal, hexDigits, uidLines, report}
+use Rattle.rack.specs.Bench.{noUids, ended, printed}
+use Rattle.rack.proofs.SlotsAlike.{benchOf}
+use Rattle.rack.proofs.Meaning.{tagsOf, tags-obey, tags-answer, freshField, bench-is-a-field}
+
+-- "E004010000000011, E004010000000021, E004010000000005", a line each, the last without 0A
+abbrev pub threeLines : List ℕ
+threeLines =
+    0x45 ∷ 0x30 ∷ 0x30 ∷ 0x34 ∷ 0x30 ∷ 0x31 ∷ 0x30 ∷ 0x30 ∷ 0x30 ∷ 0x30 ∷ 0x30 ∷ 0x30 ∷ 0x30 ∷ 0x30 ∷ 0x31 ∷ 0x31
+    ∷ 0x0a ∷ 0x45 ∷ 0x30 ∷ 0x30 ∷ 0x34 ∷ 0x30 ∷ 0x31 ∷ 0x30 ∷ 0x30 ∷ 0x30 ∷ 0x30 ∷ 0x30 ∷ 0x30 ∷ 0x30 ∷ 0x30 ∷ 0x32 ∷ 0x31
+    ∷ 0x0a ∷ 0x45 ∷ 0x30 ∷ 0x30 ∷ 0x34 ∷ 0x30 ∷ 0x31 ∷ 0x30 ∷ 0x30 ∷ 0x30 ∷ 0x30 ∷ 0x30 ∷ 0x30 ∷ 0x30 ∷ 0x30 ∷ 0x30 ∷ 0x35 ∷ []
+
+-- "it prints, whole": verdict complete, rounds 2, cards 3, and the three UIDs
+abbrev pub threePrinted : List ℕ
+threePrinted =
+    0x76 ∷ 0x65 ∷ 0x72 ∷ 0x64 ∷ 0x69 ∷ 0x63 ∷ 0x74 ∷ 0x20 ∷ 0x63 ∷ 0x6f ∷ 0x6d ∷ 0x70 ∷ 0x6c ∷ 0x65 ∷ 0x74 ∷ 0x65 ∷ 0x0a
+    ∷ 0x72 ∷ 0x6f ∷ 0x75 ∷ 0x6e ∷ 0x64 ∷ 0x73 ∷ 0x20 ∷ 0x32 ∷ 0x0a
+    ∷ 0x63 ∷ 0x61 ∷ 0x72 ∷ 0x64 ∷ 0x73 ∷ 0x20 ∷ 0x33 ∷ 0x0a
+    ∷ 0x45 ∷ 0x30 ∷ 0x30 ∷ 0x34 ∷ 0x30 ∷ 0x31 ∷ 0x30 ∷ 0x30 ∷ 0x30 ∷ 0x30 ∷ 0x30 ∷ 0x30 ∷ 0x30 ∷ 0x30 ∷ 0x30 ∷ 0x35 ∷ 0x0a
+    ∷ 0x45 ∷ 0x30 ∷ 0x30 ∷ 0x34 ∷ 0x30 ∷ 0x31 ∷ 0x30 ∷ 0x30 ∷ 0x30 ∷ 0x30 ∷ 0x30 ∷ 0x30 ∷ 0x30 ∷ 0x30 ∷ 0x31 ∷ 0x31 ∷ 0x0a
+    ∷ 0x45 ∷ 0x30 ∷ 0x30 ∷ 0x34 ∷ 0x30 ∷ 0x31 ∷ 0x30 ∷ 0x30 ∷ 0x30 ∷ 0x30 ∷ 0x30 ∷ 0x30 ∷ 0x30 ∷ 0x30 ∷ 0x32 ∷ 0x31 ∷ 0x0a ∷ []
+
+-- "For E004010000000011, E004010000000021, E004010000000005 it prints, whole", "the byte 0A, which the last may lack"
+pub record Bench : Type 0 where
+  pub prints : printed threeLines ≡ threePrinted
+  pub prints-ended : printed (threeLines ++ 0x0a ∷ []) ≡ threePrinted
+
+-- ---- the report of the field's walk
+
+three-fit : (i : ℕ) → getD three i 0 < 2 ^ 64
+three-fit zero = omega arith
+three-fit (suc zero) = omega arith
+three-fit (suc (suc zero)) = omega arith
+three-fit (suc (suc (suc i))) = omega arith
+
+report-three : (list : List ℕ) → take 3 list ≡ 0xe004010000000005 ∷ 0xe004010000000011 ∷ 0xe004010000000021 ∷ []
+    → report (record { walk = threeEnd 256; list = list }) ≡ threePrinted
+unfolding report word decimal digit hexDigits uidLines
+report-three list e = rw e refl
+
+report-played : (p : Play) → p .walk ≡ threeEnd 256 → listed p ≡ 0xe004010000000005 ∷ 0xe004010000000011 ∷ 0xe004010000000021 ∷ []
+    → report (benchOf p .desk) ≡ threePrinted
+unfolding benchOf listed
+report-played p ends lists =
+    ap (λ (w : Walk). report (record { walk = w; list = p .list })) ends
+    ∙ report-three (p .list) (ap (λ (w : Walk). take (w .count) (p .list)) (sym ends) ∙ lists)
+
+report-field : report (benchOf (field.playedFor (16 * 481) (freshField three)) .desk) ≡ threePrinted
+unfolding freshField noUids noBytes
+report-field =
+    report-played (field.playedFor (16 * 481) (freshField three))
+    (field-of-three .ends 256 (tagsOf three) noUids noBytes (tags-obey three three-fit) (omega arith) (omega arith) (tags-answer three))
+    (field-of-three .lists 256 (tagsOf three) noUids noBytes (tags-obey three three-fit) (omega arith) (omega arith) (tags-answer three))
+
+report-ended : report (ended three) ≡ threePrinted
+unfolding ended
+report-ended = ap (λ (q : Played). report (q .desk)) (bench-is-a-field three three-fit (16 * 481)) ∙ report-field
+
+-- ---- the lines of the input
+
+printed-three : (input : List ℕ) → badLine input ≡ 0 → uids input ≡ three → printed input ≡ threePrinted
+unfolding printed
+printed-three input fine same = rw (fine, same) report-ended
+
+none-wrong : badLine threeLines ≡ 0
+unfolding badLine lines linesFrom badFrom isUid allDigits digitOf
+none-wrong = refl
+
+none-wrong-ended : badLine (threeLines ++ 0x0a ∷ []) ≡ 0
+unfolding badLine lines linesFrom badFrom isUid allDigits digitOf
+none-wrong-ended = refl
+
+uids-three : uids threeLines ≡ three
+unfolding uids lines linesFrom uidsOf uidOf numberFrom digitOf
+uids-three = refl
+
+uids-three-ended : uids (threeLines ++ 0x0a ∷ []) ≡ three
+unfolding uids lines linesFrom uidsOf uidOf numberFrom digitOf
+uids-three-ended = refl
+
+pub bench : Bench
+bench =
+    record {
+      prints = printed-three threeLines none-wrong uids-three;
+      prints-ended = printed-three (threeLines ++ 0x0a ∷ []) none-wrong-ended uids-three-ended;
+    }
