@@ -16,3 +16,4 @@ mod Printing
 mod Reading
 pub mod Start
 pub mod Examples
+pub mod Unique

@@ -8,7 +8,6 @@ use lib.IntN.{ℤ, pos}
 use lib.ListN.{length}
 use Rattle.lent.specs.Lent.{over, refused}
 use Rattle.walk.specs.Record.{started}
-use Rattle.card.specs.declared.Card.{Card}
 use Rattle.rack.specs.declared.Desk.{Desk}
 use Rattle.rack.specs.Input.{badLine, uids}
 use Rattle.rack.specs.Row.{Played, cardsOf, playedFor}
@@ -30,10 +29,6 @@ freshDesk = record { walk = started 256; list = noUids }
 -- a walk has ended after 16 × 481 slots (demand 3)
 unfoldable pub ended : List ℕ → Desk
 ended us = playedFor (16 * 481) (record { desk = freshDesk; row = cardsOf us }) .desk
-
--- what `play_row` promises: the desk at the end. What becomes of the row nobody asks
-pub record PlaysRow (row : List Card) (r : Desk) : Type 0 where
-  pub desk : r ≡ playedFor (16 * 481) (record { desk = freshDesk; row = row }) .desk
 
 unfoldable pub printed : List ℕ → List ℕ
 printed input = cond (eqb (badLine input) 0) (report (ended (uids input))) (complaint (badLine input))

@@ -4,7 +4,7 @@ use mathlib.Core.Bool.{Bool, true, false, cond}
 use mathlib.Core.List.{List, [], _∷_}
 use mathlib.Core.Path.{_≡_}
 use lib.Dec.{eqb}
-use lib.ListN.{take, getD}
+use lib.ListN.{take}
 use Rattle.crc.specs.Check.{sealed}
 use Rattle.frames.specs.Field.{fieldBytes}
 use Rattle.card.specs.declared.Card.{Card}
@@ -49,14 +49,6 @@ cardOf uid =
 unfoldable pub cardsOf : List ℕ → List Card
 cardsOf [] = []
 cardsOf (u ∷ us) = cardOf u ∷ cardsOf us
-
--- a row with the cards of these UIDs, one at each place
-unfoldable pub dealtFrom : List ℕ → ℕ → List Card → List Card
-dealtFrom us i [] = []
-dealtFrom us i (c ∷ cs) = cardOf (getD us i 0) ∷ dealtFrom us (suc i) cs
-
-unfoldable pub dealt : List ℕ → List Card → List Card
-dealt us row = dealtFrom us 0 row
 
 -- room for a request
 unfoldable pub noBytes : List ℕ

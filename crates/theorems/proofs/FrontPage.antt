@@ -67,6 +67,14 @@ use Rattle.field.specs.Demand.{demand3}
 use Rattle.field.proofs.AnyWalk.{judged-fits, walk-of-any-replies}
 use Rattle.field.proofs.Demand3.{walk-of-a-field}
 use Rattle.field.proofs.Examples.{FieldOfThree, field-of-three}
+use Rattle.rack.specs.Input.{badLine, uids}
+use Rattle.rack.specs.Output.{report}
+use Rattle.rack.specs.Bench.{ended, printed, Prints}
+use Rattle.rack.specs.Meaning.{Meaning}
+use Rattle.rack.proofs.InputMeaning.{printed-meets-demand3}
+use Rattle.rack.proofs.Start.{printed-of-start}
+use Rattle.rack.proofs.Unique.{prints-unique}
+use Rattle.rack.proofs.Examples.{Bench, bench}
 use Rattle.board.specs.Calls.{Left, Gives}
 use Rattle.board.specs.Walked.{HearsInPlace, AsksInPlace}
 use Rattle.board.proofs.Unique.{gives-unique}
@@ -140,6 +148,16 @@ clean-fits = judged-fits
 -- The statement is crates/field/specs/Demand.antt; the field stands in Field.antt and Played.antt beside it, the tails in crates/tails/specs.
 demand-three : demand3
 demand-three = walk-of-a-field
+
+-- ---- The bench
+
+-- What the bench prints for an input with no wrong line is the report of a walk's end, and demand 3 holds of that end and of the input's UIDs.
+what-is-printed : (input : List ℕ) → badLine input ≡ 0 → (printed input ≡ report (ended (uids input))) × Meaning (uids input) (ended (uids input))
+what-is-printed = printed-meets-demand3
+
+-- No input needs more to be read than its first 1,701 bytes.
+the-start-is-enough : (k : ℕ) (input : List ℕ) → 1701 ≤ k → printed (take k input) ≡ printed input
+the-start-is-enough = printed-of-start
 
 -- ---- Every promise allows one result
 
@@ -256,6 +274,9 @@ hear-in-place-once = hear-in-place-unique
 ask-in-place-once : (a : Asking) (r s : ℤ) (room room′ : List ℕ) → AsksInPlace a r room → AsksInPlace a s room′ → (r ≡ s) × (room ≡ room′)
 ask-in-place-once = ask-in-place-unique
 
+bench-once : (input room : List ℕ) (r s : ℤ) (left right : List ℕ) → Prints input room r left → Prints input room s right → (r ≡ s) × (left ≡ right)
+bench-once = prints-unique
+
 -- ---- The examples of the rules page, under a single statement
 
 record Examples : Type 0 where
@@ -266,6 +287,7 @@ record Examples : Type 0 where
   of-information : Information
   of-walks : Walks
   of-three : FieldOfThree
+  of-bench : Bench
 
 examples : Examples
 examples =
@@ -277,4 +299,5 @@ examples =
       of-information = information-shown;
       of-walks = walks;
       of-three = field-of-three;
+      of-bench = bench;
     }
