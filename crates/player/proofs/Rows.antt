@@ -3,12 +3,13 @@
 use mathlib.Core.Path.{_≡_, refl, sym, ap, _∙_}
 use mathlib.Core.Bool.{Bool, _&&_}
 use mathlib.Core.List.{List, [], _∷_, _++_}
-use Prim.Native.Nat.{ℕ, zero, suc, _+_, _*_, _/_, _%_, _≤_, _<_}
+use Prim.Native.Nat.{ℕ, zero, suc, _+_, _*_, _/_, _%_, _-_, _≤_, _<_}
 use native.Mathlib.Numerals.{add-one, towards-suc}
 use native.Mathlib.Omega.{arith}
 use lib.Dec.{eqb}
-use lib.ListN.{length, getD, set, length-append}
-use Rattle.lent.specs.Lent.{over, placed}
+use lib.ListN.{length, take, drop, getD, set, length-append, length-drop}
+use lib.Seq.{take-all}
+use Rattle.lent.specs.Lent.{placed}
 use Rattle.lent.specs.Puts.{Puts, PutsAt}
 use Rattle.lent.proofs.Over.{set-placed, sets-placed, placed-start, placed-placed}
 use Rattle.player.specs.Hex.{glyphOf, isDigit, areDigits, pairAt, isPlaced, arePlaced, rowBytes, pairText, rowText, agrees}
@@ -83,3 +84,14 @@ put-pair-more bytes e left n at r h k put =
 
 pub puts-row : (bytes e left : List ℕ) (n r : ℕ) → r ≡ 3 * n → left ≡ placed 0 (rowText bytes n) e → Puts (rowText bytes n) e r left
 puts-row bytes e left n r h k = record { count = h ∙ sym (length-row-text bytes n); leaves = k ∙ placed-start _ _ }
+
+-- how many they are
+pub bytes-count : (text e left : List ℕ) (n r : ℕ) → Puts (rowBytes text n) e r left → r ≡ n
+bytes-count text e left n r put = put .count ∙ length-row-bytes text n
+
+pub row-count : (bytes e left : List ℕ) (n r : ℕ) → Puts (rowText bytes n) e r left → r ≡ 3 * n
+row-count bytes e left n r put = put .count ∙ length-row-text bytes n
+
+-- the part from a place on, to the end
+pub rest-all : (n : ℕ) (l : List ℕ) → take (length l - n) (drop n l) ≡ drop n l
+rest-all n l = take-all (length l - n) (drop n l) (rw length-drop (omega arith))

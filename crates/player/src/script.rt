@@ -340,8 +340,9 @@ pub(crate) fn hear_piece(
     let mut next = player;
     let mut i = 0;
     while i < piece.len() {
-        next = hear_byte(next, piece[i], line, memory, locks, room);
+        let b = piece[i];
         i += 1;
+        next = hear_byte(next, b, line, memory, locks, room);
     }
     next
 }

@@ -22,14 +22,19 @@ fn tell_pair(b: u8) {
     io::write_all(STDOUT_FILENO, &text);
 }
 
-// The bytes of an answer: their row without its first space.
+// A row without its first space.
+fn tell_row(row: &[u8]) {
+    if 0 < row.len() {
+        io::write_all(STDOUT_FILENO, &row[1..]);
+    }
+}
+
+// The bytes of an answer.
 fn tell_bytes(bytes: &[u8]) {
     let mut text = [0u8; 25353];
     let k = least(bytes.len(), 8451);
     let n = put_row(&bytes[..k], &mut text);
-    if 0 < n {
-        io::write_all(STDOUT_FILENO, &text[1..n]);
-    }
+    tell_row(&text[..n]);
 }
 
 // The answer, silence, or the number of the refusal.

@@ -1,3 +1,5 @@
+-- `player::hex::is_placed` meets its contract, by the promises of what it calls. Assumes nothing.
+use Rattle.player.specs.Hex.{isPlaced}
 use borrow.Author.Needs.{needs}
 use Rattle.player.proofs.hex.is_placed.Statement.{statement}
 use Rattle.player.proofs.hex.is_placed.Tie as tie
@@ -7,25 +9,21 @@ use Rattle.frames.proofs.byte_at.Reads as byte-at-reads
 use Rattle.player.proofs.hex.are_digits.Reads as are-digits-reads
 use Rattle.player.proofs.hex.both.Reads as both-reads
 
--- src/hex.rt:98:17
 byte-at-requires : tie.Need-byte-at-requires
 byte-at-requires c κs = search needs
 
--- src/hex.rt:99:34
 add-are-digits : tie.Need-add-are-digits
 add-are-digits c = search needs
 
--- src/hex.rt:99:17
 are-digits-requires : tie.Need-are-digits-requires
 are-digits-requires c κs = search needs
 
--- src/hex.rt:99:5
 both-requires : tie.Need-both-requires
 both-requires c κs = search needs
 
--- src/hex.rt:94:1
 returns : tie.Need-returns
-returns c = ?
+unfolding isPlaced
+returns c = rw (c .both .ensures, c .before .are-digits .ensures, c .before .before .byte-at .ensures)
 
 pub is-placed-spec : {M : Type 1} → statement M
 is-placed-spec =

@@ -1,3 +1,12 @@
+-- `player::hex::is_row` meets its contract. The loop's invariant: whether the first i pairs stand there. The measure is what is left of n.
+-- Assumes nothing.
+use native.Mathlib.Omega.{arith}
+use mathlib.Core.Path.{_≡_, refl, sym}
+use Prim.Native.Nat.{_+_, _-_, _*_, _/_, _%_, _≤_}
+use lib.ListN.{length, length-set}
+use lib.Dec.{eqb}
+use Rattle.player.specs.Hex.{arePlaced, isRow}
+use Rattle.player.proofs.Rows.{placed-suc}
 use Rattle.player.proofs.hex.is_row.Statement.{statement}
 use Rattle.player.proofs.hex.is_row.Tie as tie
 use Rattle.player.proofs.hex.is_row.Reads as reads
@@ -6,42 +15,40 @@ use Rattle.player.proofs.hex.both.Reads as both-reads
 use Rattle.player.proofs.hex.is_placed.Reads as is-placed-reads
 
 abbrev Inv-loop : tie.InvT-loop
-Inv-loop text n good₀ i₀ good i = ?
+Inv-loop text n good₀ i₀ good i = (i ≤ n) × (good ≡ arePlaced (eqb (length text % 3) 0) text i)
 
 abbrev μ-loop : tie.MeasureT-loop
-μ-loop text n good₀ i₀ good i = ?
+μ-loop text n good₀ i₀ good i = n - i
 
--- src/hex.rt:109:5
 loop-holds : tie.Need-loop-holds Inv-loop μ-loop
-loop-holds c = ?
+unfolding arePlaced
+loop-holds c = (omega arith, refl)
 
--- src/hex.rt:110:43
 mul-is-placed : tie.Need-mul-is-placed Inv-loop μ-loop
-mul-is-placed c = ?
+mul-is-placed c = omega arith
 
--- src/hex.rt:110:27
 is-placed-requires : tie.Need-is-placed-requires Inv-loop μ-loop
-is-placed-requires c κs = ?
+is-placed-requires c κs = omega arith
 
--- src/hex.rt:110:9
 both-requires : tie.Need-both-requires Inv-loop μ-loop
-both-requires c κs = ?
+both-requires c κs = tt
 
--- src/hex.rt:111:9
 add-i : tie.Need-add-i Inv-loop μ-loop
-add-i c = ?
+add-i c = omega arith
 
--- src/hex.rt:109:5
 loop-less : tie.Need-loop-less Inv-loop μ-loop
-loop-less c = ?
+loop-less c = omega arith
 
--- src/hex.rt:109:5
 loop-again : tie.Need-loop-again Inv-loop μ-loop
-loop-again c = ?
+loop-again c =
+    let loop = c .before .before .before .loop in
+    (omega arith, rw (c .both .ensures, c .before .is-placed .ensures, loop .inv .1, placed-suc))
 
--- src/hex.rt:103:1
 returns : tie.Need-returns Inv-loop μ-loop
-returns c = ?
+unfolding isRow
+returns c =
+    let past : c .before .loop .i ≡ length (c .before .before .before .args .text .now) / 3 = omega arith in
+    rw past at (c .before .loop .inv .1)
 
 pub is-row-spec : {M : Type 1} → statement M
 is-row-spec =

@@ -1,7 +1,7 @@
 -- `player::hex::put_row` meets its contract. The loop's invariant: the first i pairs are put. The measure is how many bytes are left.
 -- Assumes nothing.
 use native.Mathlib.Omega.{arith}
-use mathlib.Core.Path.{_≡_, refl, sym, _∙_}
+use mathlib.Core.Path.{_≡_, refl, sym}
 use Prim.Native.Nat.{_+_, _-_, _*_, _/_, _%_, _≤_}
 use lib.ListN.{length, length-set}
 use Rattle.lent.specs.Lent.{placed}
@@ -41,7 +41,7 @@ loop-again c =
     let loop = c .before .before .before .before .before .before .loop in
     let args = c .before .before .before .before .before .before .before .before .before .args in
     let put = c .before .before .put-pair .ensures in
-    let next = put .next ∙ rw length-pair-text in
+    let next : c .before .before .put-pair .result ≡ loop .at + 3 = rw length-pair-text at (put .next) in
     (omega arith, omega (arith, next), omega arith, put-pair-more _ _ _ _ _ _ (loop .inv .1) (omega arith) (rw (loop .inv .3) at put))
 
 same-length : tie.Need-same-length Inv-loop μ-loop

@@ -48,7 +48,7 @@ returns : tie.Need-returns Inv-loop μ-loop
 unfolding startsWith
 returns c =
     let past : c .before .loop .i ≡ length (c .before .before .before .before .args .word .now) = omega arith in
-    rw (← past) (c .before .loop .inv .1)
+    rw past at (c .before .loop .inv .1)
 
 pub starts-with-spec : {M : Type 1} → statement M
 starts-with-spec =

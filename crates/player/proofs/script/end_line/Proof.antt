@@ -1,3 +1,7 @@
+-- `player::script::end_line` is safe and ends: what was read of the line is within its buffer. Assumes nothing.
+use native.Mathlib.Omega.{arith}
+use mathlib.Core.Path.{sym}
+use lib.Seq.{length-take-le}
 use borrow.Author.Needs.{needs}
 use Rattle.player.proofs.script.end_line.Statement.{statement}
 use Rattle.player.proofs.script.end_line.Tie as tie
@@ -7,39 +11,30 @@ use Rattle.player.proofs.hex.least.Reads as least-reads
 use Rattle.player.proofs.script.Player.bad_line.Reads as bad-line-reads
 use Rattle.player.proofs.script.hear_line.Reads as hear-line-reads
 
--- src/script.rt:303:9
 bad-line-requires : tie.Need-bad-line-requires
 bad-line-requires c κs = search needs
 
--- src/script.rt:303:9
 returns : tie.Need-returns
 returns c = search needs
 
--- src/script.rt:305:9
 least-requires : tie.Need-least-requires
 least-requires c κs = search needs
 
--- src/script.rt:306:23
 slice-aggregate-hear-line : tie.Need-slice-aggregate-hear-line
-slice-aggregate-hear-line c = ?
+slice-aggregate-hear-line c = sym (length-take-le _ _ (omega arith))
 
--- src/script.rt:306:5
 hear-line-requires : tie.Need-hear-line-requires
 hear-line-requires c κs = search needs
 
--- src/script.rt:295:1
 same-length : tie.Need-same-length
 same-length c = search needs
 
--- src/script.rt:295:1
 same-length-2 : tie.Need-same-length-2
 same-length-2 c = search needs
 
--- src/script.rt:295:1
 same-length-3 : tie.Need-same-length-3
 same-length-3 c = search needs
 
--- src/script.rt:295:1
 returns-2 : tie.Need-returns-2
 returns-2 c = search needs
 

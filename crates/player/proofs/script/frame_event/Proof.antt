@@ -1,3 +1,7 @@
+-- `player::script::frame_event` is safe and ends: each part is within what it is a part of. Assumes nothing.
+use native.Mathlib.Omega.{arith}
+use mathlib.Core.Path.{sym}
+use lib.Seq.{length-take-le}
 use borrow.Author.Needs.{needs}
 use Rattle.player.proofs.script.frame_event.Statement.{statement}
 use Rattle.player.proofs.script.frame_event.Tie as tie
@@ -8,59 +12,45 @@ use Rattle.player.proofs.hex.least.Reads as least-reads
 use Rattle.player.proofs.script.Player.serve.Reads as serve-reads
 use Rattle.player.proofs.script.cells.Reads as cells-reads
 
--- src/script.rt:143:19
 cells-requires : tie.Need-cells-requires
 cells-requires c κs = search needs
 
--- src/script.rt:143:9
 least-requires : tie.Need-least-requires
 least-requires c κs = search needs
 
--- src/script.rt:144:19
 cast-least : tie.Need-cast-least
 cast-least c = search needs
 
--- src/script.rt:144:9
 least-requires-2 : tie.Need-least-requires-2
 least-requires-2 c κs = search needs
 
--- src/script.rt:145:51
 slice-relend-prefix-frame : tie.Need-slice-relend-prefix-frame
 slice-relend-prefix-frame c = search needs
 
--- src/script.rt:145:51
 slice-aggregate-frame : tie.Need-slice-aggregate-frame
-slice-aggregate-frame c = ?
+slice-aggregate-frame c = sym (length-take-le _ _ (omega arith))
 
--- src/script.rt:145:69
 slice-relend-prefix-frame-2 : tie.Need-slice-relend-prefix-frame-2
 slice-relend-prefix-frame-2 c = search needs
 
--- src/script.rt:145:69
 slice-aggregate-frame-2 : tie.Need-slice-aggregate-frame-2
-slice-aggregate-frame-2 c = ?
+slice-aggregate-frame-2 c = sym (length-take-le _ _ (omega arith))
 
--- src/script.rt:145:9
 frame-requires : tie.Need-frame-requires
 frame-requires c κs = search needs
 
--- src/script.rt:146:5
 serve-requires : tie.Need-serve-requires
 serve-requires c κs = search needs
 
--- src/script.rt:135:1
 same-length : tie.Need-same-length
 same-length c = search needs
 
--- src/script.rt:135:1
 same-length-2 : tie.Need-same-length-2
 same-length-2 c = search needs
 
--- src/script.rt:135:1
 same-length-3 : tie.Need-same-length-3
 same-length-3 c = search needs
 
--- src/script.rt:135:1
 returns : tie.Need-returns
 returns c = search needs
 

@@ -1,3 +1,8 @@
+-- `player::script::hear_frame` is safe and ends: a row of at most 254 bytes stands for at most 84. Assumes nothing.
+use native.Mathlib.Omega.{arith}
+use mathlib.Core.Path.{sym}
+use lib.Seq.{length-take-le}
+use Rattle.player.proofs.Rows.{bytes-count}
 use borrow.Author.Needs.{needs}
 use Rattle.player.proofs.script.hear_frame.Statement.{statement}
 use Rattle.player.proofs.script.hear_frame.Tie as tie
@@ -8,59 +13,45 @@ use Rattle.player.proofs.hex.put_bytes.Reads as put-bytes-reads
 use Rattle.player.proofs.script.Player.bad_line.Reads as bad-line-reads
 use Rattle.player.proofs.script.frame_event.Reads as frame-event-reads
 
--- src/script.rt:174:9
 bad-line-requires : tie.Need-bad-line-requires
 bad-line-requires c κs = search needs
 
--- src/script.rt:174:9
 returns : tie.Need-returns
 returns c = search needs
 
--- src/script.rt:176:9
 is-row-requires : tie.Need-is-row-requires
 is-row-requires c κs = search needs
 
--- src/script.rt:177:9
 bad-line-requires-2 : tie.Need-bad-line-requires-2
 bad-line-requires-2 c κs = search needs
 
--- src/script.rt:177:9
 returns-2 : tie.Need-returns-2
 returns-2 c = search needs
 
--- src/script.rt:179:28
 slice-aggregate-put-bytes : tie.Need-slice-aggregate-put-bytes
 slice-aggregate-put-bytes c = search needs
 
--- src/script.rt:179:9
 put-bytes-requires : tie.Need-put-bytes-requires
 put-bytes-requires c κs = search needs
 
--- src/script.rt:180:25
 array-share-prefix-frame : tie.Need-array-share-prefix-frame
-array-share-prefix-frame c = ?
+array-share-prefix-frame c = omega (arith, bytes-count _ _ _ _ _ (c .before .put-bytes .ensures))
 
--- src/script.rt:180:25
 slice-aggregate-frame-event : tie.Need-slice-aggregate-frame-event
-slice-aggregate-frame-event c = ?
+slice-aggregate-frame-event c = sym (length-take-le _ _ (omega (arith, bytes-count _ _ _ _ _ (c .before .before .put-bytes .ensures))))
 
--- src/script.rt:180:5
 frame-event-requires : tie.Need-frame-event-requires
 frame-event-requires c κs = search needs
 
--- src/script.rt:165:1
 same-length : tie.Need-same-length
 same-length c = search needs
 
--- src/script.rt:165:1
 same-length-2 : tie.Need-same-length-2
 same-length-2 c = search needs
 
--- src/script.rt:165:1
 same-length-3 : tie.Need-same-length-3
 same-length-3 c = search needs
 
--- src/script.rt:165:1
 returns-3 : tie.Need-returns-3
 returns-3 c = search needs
 

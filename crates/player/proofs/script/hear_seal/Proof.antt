@@ -1,3 +1,8 @@
+-- `player::script::hear_seal` is safe and ends: a row of at most 254 bytes stands for at most 84, and the check takes two. Assumes nothing.
+use native.Mathlib.Omega.{arith}
+use mathlib.Core.Path.{sym}
+use lib.Seq.{length-take-le}
+use Rattle.player.proofs.Rows.{bytes-count}
 use borrow.Author.Needs.{needs}
 use Rattle.player.proofs.script.hear_seal.Statement.{statement}
 use Rattle.player.proofs.script.hear_seal.Tie as tie
@@ -9,71 +14,54 @@ use Rattle.player.proofs.hex.put_bytes.Reads as put-bytes-reads
 use Rattle.player.proofs.script.Player.bad_line.Reads as bad-line-reads
 use Rattle.player.proofs.script.frame_event.Reads as frame-event-reads
 
--- src/script.rt:192:9
 bad-line-requires : tie.Need-bad-line-requires
 bad-line-requires c κs = search needs
 
--- src/script.rt:192:9
 returns : tie.Need-returns
 returns c = search needs
 
--- src/script.rt:194:9
 is-row-requires : tie.Need-is-row-requires
 is-row-requires c κs = search needs
 
--- src/script.rt:195:9
 bad-line-requires-2 : tie.Need-bad-line-requires-2
 bad-line-requires-2 c κs = search needs
 
--- src/script.rt:195:9
 returns-2 : tie.Need-returns-2
 returns-2 c = search needs
 
--- src/script.rt:197:28
 slice-aggregate-put-bytes : tie.Need-slice-aggregate-put-bytes
 slice-aggregate-put-bytes c = search needs
 
--- src/script.rt:197:9
 put-bytes-requires : tie.Need-put-bytes-requires
 put-bytes-requires c κs = search needs
 
--- src/script.rt:198:18
 slice-aggregate-seal : tie.Need-slice-aggregate-seal
 slice-aggregate-seal c = search needs
 
--- src/script.rt:198:5
 seal-requires : tie.Need-seal-requires
 seal-requires c κs = search needs
 
--- src/script.rt:199:34
 add-frame : tie.Need-add-frame
-add-frame c = ?
+add-frame c = omega (arith, bytes-count _ _ _ _ _ (c .before .before .before .before .put-bytes .ensures))
 
--- src/script.rt:199:25
 array-share-prefix-frame : tie.Need-array-share-prefix-frame
-array-share-prefix-frame c = ?
+array-share-prefix-frame c = omega (arith, bytes-count _ _ _ _ _ (c .before .before .before .before .put-bytes .ensures))
 
--- src/script.rt:199:25
 slice-aggregate-frame-event : tie.Need-slice-aggregate-frame-event
-slice-aggregate-frame-event c = ?
+slice-aggregate-frame-event c = sym (length-take-le _ _ (omega (arith, bytes-count _ _ _ _ _ (c .before .before .before .before .before .put-bytes .ensures))))
 
--- src/script.rt:199:5
 frame-event-requires : tie.Need-frame-event-requires
 frame-event-requires c κs = search needs
 
--- src/script.rt:183:1
 same-length : tie.Need-same-length
 same-length c = search needs
 
--- src/script.rt:183:1
 same-length-2 : tie.Need-same-length-2
 same-length-2 c = search needs
 
--- src/script.rt:183:1
 same-length-3 : tie.Need-same-length-3
 same-length-3 c = search needs
 
--- src/script.rt:183:1
 returns-3 : tie.Need-returns-3
 returns-3 c = search needs
 

@@ -1,3 +1,7 @@
+-- `player::script::mark_event` is safe and ends: each part is within what it is a part of. Assumes nothing.
+use native.Mathlib.Omega.{arith}
+use mathlib.Core.Path.{sym}
+use lib.Seq.{length-take-le}
 use borrow.Author.Needs.{needs}
 use Rattle.player.proofs.script.mark_event.Statement.{statement}
 use Rattle.player.proofs.script.mark_event.Tie as tie
@@ -8,43 +12,33 @@ use Rattle.player.proofs.hex.least.Reads as least-reads
 use Rattle.player.proofs.script.Player.serve.Reads as serve-reads
 use Rattle.player.proofs.script.cells.Reads as cells-reads
 
--- src/script.rt:151:19
 cells-requires : tie.Need-cells-requires
 cells-requires c κs = search needs
 
--- src/script.rt:151:9
 least-requires : tie.Need-least-requires
 least-requires c κs = search needs
 
--- src/script.rt:152:19
 cast-least : tie.Need-cast-least
 cast-least c = search needs
 
--- src/script.rt:152:9
 least-requires-2 : tie.Need-least-requires-2
 least-requires-2 c κs = search needs
 
--- src/script.rt:153:43
 slice-aggregate-mark : tie.Need-slice-aggregate-mark
-slice-aggregate-mark c = ?
+slice-aggregate-mark c = sym (length-take-le _ _ (omega arith))
 
--- src/script.rt:153:57
 slice-aggregate-mark-2 : tie.Need-slice-aggregate-mark-2
-slice-aggregate-mark-2 c = ?
+slice-aggregate-mark-2 c = sym (length-take-le _ _ (omega arith))
 
--- src/script.rt:153:9
 mark-requires : tie.Need-mark-requires
 mark-requires c κs = search needs
 
--- src/script.rt:154:5
 serve-requires : tie.Need-serve-requires
 serve-requires c κs = search needs
 
--- src/script.rt:149:1
 same-length : tie.Need-same-length
 same-length c = search needs
 
--- src/script.rt:149:1
 returns : tie.Need-returns
 returns c = search needs
 

@@ -1,3 +1,7 @@
+-- `player::script::off_event` is safe and ends: each part is within what it is a part of. Assumes nothing.
+use native.Mathlib.Omega.{arith}
+use mathlib.Core.Path.{sym}
+use lib.Seq.{length-take-le}
 use borrow.Author.Needs.{needs}
 use Rattle.player.proofs.script.off_event.Statement.{statement}
 use Rattle.player.proofs.script.off_event.Tie as tie
@@ -8,39 +12,30 @@ use Rattle.player.proofs.hex.least.Reads as least-reads
 use Rattle.player.proofs.script.Player.serve.Reads as serve-reads
 use Rattle.player.proofs.script.cells.Reads as cells-reads
 
--- src/script.rt:159:19
 cells-requires : tie.Need-cells-requires
 cells-requires c κs = search needs
 
--- src/script.rt:159:9
 least-requires : tie.Need-least-requires
 least-requires c κs = search needs
 
--- src/script.rt:160:19
 cast-least : tie.Need-cast-least
 cast-least c = search needs
 
--- src/script.rt:160:9
 least-requires-2 : tie.Need-least-requires-2
 least-requires-2 c κs = search needs
 
--- src/script.rt:161:48
 slice-aggregate-power-off : tie.Need-slice-aggregate-power-off
-slice-aggregate-power-off c = ?
+slice-aggregate-power-off c = sym (length-take-le _ _ (omega arith))
 
--- src/script.rt:161:62
 slice-aggregate-power-off-2 : tie.Need-slice-aggregate-power-off-2
-slice-aggregate-power-off-2 c = ?
+slice-aggregate-power-off-2 c = sym (length-take-le _ _ (omega arith))
 
--- src/script.rt:161:9
 power-off-requires : tie.Need-power-off-requires
 power-off-requires c κs = search needs
 
--- src/script.rt:162:5
 serve-requires : tie.Need-serve-requires
 serve-requires c κs = search needs
 
--- src/script.rt:157:1
 returns : tie.Need-returns
 returns c = search needs
 

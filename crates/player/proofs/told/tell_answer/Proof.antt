@@ -1,3 +1,7 @@
+-- `player::told::tell_answer` is safe and ends: each part is within what it is a part of. Assumes nothing.
+use native.Mathlib.Omega.{arith}
+use mathlib.Core.Path.{sym}
+use lib.Seq.{length-take-le}
 use borrow.Author.Needs.{needs}
 use Rattle.player.proofs.told.tell_answer.Statement.{statement}
 use Rattle.player.proofs.told.tell_answer.Tie as tie
@@ -8,47 +12,36 @@ use Rattle.io.proofs.write_all.Reads as write-all-reads
 use Rattle.player.proofs.hex.least.Reads as least-reads
 use Rattle.player.proofs.told.tell_bytes.Reads as tell-bytes-reads
 
--- src/told.rt:38:38
 slice-aggregate-write-all : tie.Need-slice-aggregate-write-all
 slice-aggregate-write-all c = search needs
 
--- src/told.rt:38:9
 write-all-requires : tie.Need-write-all-requires
 write-all-requires c κs = search needs
 
--- src/told.rt:39:9
 print-decimal-requires : tie.Need-print-decimal-requires
 print-decimal-requires c κs = search needs
 
--- src/told.rt:41:38
 slice-aggregate-write-all-2 : tie.Need-slice-aggregate-write-all-2
 slice-aggregate-write-all-2 c = search needs
 
--- src/told.rt:41:9
 write-all-requires-2 : tie.Need-write-all-requires-2
 write-all-requires-2 c κs = search needs
 
--- src/told.rt:43:13
 least-requires : tie.Need-least-requires
 least-requires c κs = search needs
 
--- src/told.rt:44:20
 slice-aggregate-tell-bytes : tie.Need-slice-aggregate-tell-bytes
-slice-aggregate-tell-bytes c = ?
+slice-aggregate-tell-bytes c = sym (length-take-le _ _ (omega arith))
 
--- src/told.rt:44:9
 tell-bytes-requires : tie.Need-tell-bytes-requires
 tell-bytes-requires c κs = search needs
 
--- src/told.rt:46:34
 slice-aggregate-write-all-3 : tie.Need-slice-aggregate-write-all-3
 slice-aggregate-write-all-3 c = search needs
 
--- src/told.rt:46:5
 write-all-requires-3 : tie.Need-write-all-requires-3
 write-all-requires-3 c κs = search needs
 
--- src/told.rt:36:1
 returns : tie.Need-returns
 returns c = search needs
 

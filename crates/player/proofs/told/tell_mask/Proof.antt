@@ -1,3 +1,8 @@
+-- `player::told::tell_mask` is safe and ends: the row of eight bytes fills the text. Assumes nothing.
+use native.Mathlib.Omega.{arith}
+use mathlib.Core.Path.{sym}
+use lib.Seq.{length-take-le}
+use Rattle.player.proofs.Rows.{row-count}
 use borrow.Author.Needs.{needs}
 use Rattle.player.proofs.told.tell_mask.Statement.{statement}
 use Rattle.player.proofs.told.tell_mask.Tie as tie
@@ -7,39 +12,30 @@ use Rattle.frames.proofs.put_field.Reads as put-field-reads
 use Rattle.io.proofs.write_all.Reads as write-all-reads
 use Rattle.player.proofs.hex.put_row.Reads as put-row-reads
 
--- src/told.rt:66:23
 slice-aggregate-put-field : tie.Need-slice-aggregate-put-field
 slice-aggregate-put-field c = search needs
 
--- src/told.rt:66:5
 put-field-requires : tie.Need-put-field-requires
 put-field-requires c κs = search needs
 
--- src/told.rt:68:21
 slice-aggregate-put-row : tie.Need-slice-aggregate-put-row
 slice-aggregate-put-row c = search needs
 
--- src/told.rt:68:29
 slice-aggregate-put-row-2 : tie.Need-slice-aggregate-put-row-2
 slice-aggregate-put-row-2 c = search needs
 
--- src/told.rt:68:9
 put-row-requires : tie.Need-put-row-requires
 put-row-requires c κs = search needs
 
--- src/told.rt:69:34
 array-share-prefix-text : tie.Need-array-share-prefix-text
-array-share-prefix-text c = ?
+array-share-prefix-text c = omega (arith, row-count _ _ _ _ _ (c .before .put-row .ensures))
 
--- src/told.rt:69:34
 slice-aggregate-write-all : tie.Need-slice-aggregate-write-all
-slice-aggregate-write-all c = ?
+slice-aggregate-write-all c = sym (length-take-le _ _ (omega (arith, row-count _ _ _ _ _ (c .before .before .put-row .ensures))))
 
--- src/told.rt:69:5
 write-all-requires : tie.Need-write-all-requires
 write-all-requires c κs = search needs
 
--- src/told.rt:64:1
 returns : tie.Need-returns
 returns c = search needs
 
