@@ -1,0 +1,14 @@
+use mathlib.Core.Path.{refl}
+use Rattle.player.specs.Script.{newCard}
+use Rattle.player.proofs.script.new_card.Statement.{statement}
+use Rattle.player.proofs.script.new_card.Tie as tie
+use Rattle.player.proofs.script.new_card.Reads as reads
+use Rattle.player.proofs.script.new_card.Lts as lts
+
+-- src/script.rt:34:1
+returns : tie.Need-returns
+unfolding newCard
+returns c = refl
+
+pub new-card-spec : {M : Type 1} → statement M
+new-card-spec = tie.close (tie.spec returns)
