@@ -1,3 +1,4 @@
+-- `player::hex::digit` meets its contract: by the two ranges of bytes. Assumes nothing.
 use borrow.Author.Needs.{needs}
 use borrow.Author.Tests.{lt-ltb, le-ltb, le-leb, lt-leb}
 use Rattle.player.specs.Hex.{digitOf}
@@ -6,31 +7,25 @@ use Rattle.player.proofs.hex.digit.Tie as tie
 use Rattle.player.proofs.hex.digit.Reads as reads
 use Rattle.player.proofs.hex.digit.Lts as lts
 
--- src/hex.rt:29:9
 returns : tie.Need-returns
 unfolding digitOf
 returns c = rw (lt-ltb _ _ (c .if1 .taken))
 
--- src/hex.rt:32:9
 returns-2 : tie.Need-returns-2
 unfolding digitOf
 returns-2 c = rw (le-ltb _ _ (c .before .if1 .left), le-leb _ _ (c .if2 .taken))
 
--- src/hex.rt:35:9
 returns-3 : tie.Need-returns-3
 unfolding digitOf
 returns-3 c = rw (le-ltb _ _ (c .before .before .if1 .left), lt-leb _ _ (c .before .if2 .left), lt-ltb _ _ (c .if3 .taken))
 
--- src/hex.rt:38:16
 sub-result : tie.Need-sub-result
 sub-result c = search needs
 
--- src/hex.rt:38:9
 returns-4 : tie.Need-returns-4
 unfolding digitOf
 returns-4 c = rw (le-ltb _ _ (c .before .before .before .if1 .left), lt-leb _ _ (c .before .before .if2 .left), le-ltb _ _ (c .before .if3 .left), le-leb _ _ (c .if4 .taken))
 
--- src/hex.rt:25:1
 returns-5 : tie.Need-returns-5
 unfolding digitOf
 returns-5 c = rw (le-ltb _ _ (c .before .before .before .if1 .left), lt-leb _ _ (c .before .before .if2 .left), le-ltb _ _ (c .before .if3 .left), lt-leb _ _ (c .if4 .left))

@@ -1,3 +1,4 @@
+-- `player::hex::four_at` meets its contract: four pairs, the highest first. Assumes nothing.
 use borrow.Author.Needs.{needs}
 use Rattle.player.specs.Hex.{fourAt}
 use Rattle.player.proofs.hex.four_at.Statement.{statement}
@@ -6,75 +7,57 @@ use Rattle.player.proofs.hex.four_at.Reads as reads
 use Rattle.player.proofs.hex.four_at.Lts as lts
 use Rattle.player.proofs.hex.pair_at.Reads as pair-at-reads
 
--- src/hex.rt:86:9
 pair-at-requires : tie.Need-pair-at-requires
 pair-at-requires c κs = search needs
 
--- src/hex.rt:87:28
 add-pair-at : tie.Need-add-pair-at
 add-pair-at c = search needs
 
--- src/hex.rt:87:9
 pair-at-requires-2 : tie.Need-pair-at-requires-2
 pair-at-requires-2 c κs = search needs
 
--- src/hex.rt:88:28
 add-pair-at-2 : tie.Need-add-pair-at-2
 add-pair-at-2 c = search needs
 
--- src/hex.rt:88:9
 pair-at-requires-3 : tie.Need-pair-at-requires-3
 pair-at-requires-3 c κs = search needs
 
--- src/hex.rt:89:28
 add-pair-at-3 : tie.Need-add-pair-at-3
 add-pair-at-3 c = search needs
 
--- src/hex.rt:89:9
 pair-at-requires-4 : tie.Need-pair-at-requires-4
 pair-at-requires-4 c κs = search needs
 
--- src/hex.rt:90:17
 cast-result : tie.Need-cast-result
 cast-result c = search needs
 
--- src/hex.rt:90:5
 mul-result : tie.Need-mul-result
 mul-result c = search needs
 
--- src/hex.rt:90:39
 cast-result-2 : tie.Need-cast-result-2
 cast-result-2 c = search needs
 
--- src/hex.rt:90:30
 mul-result-2 : tie.Need-mul-result-2
 mul-result-2 c = search needs
 
--- src/hex.rt:90:5
 add-result : tie.Need-add-result
 add-result c = search needs
 
--- src/hex.rt:90:59
 cast-result-3 : tie.Need-cast-result-3
 cast-result-3 c = search needs
 
--- src/hex.rt:90:52
 mul-result-3 : tie.Need-mul-result-3
 mul-result-3 c = search needs
 
--- src/hex.rt:90:5
 add-result-2 : tie.Need-add-result-2
 add-result-2 c = search needs
 
--- src/hex.rt:90:73
 cast-result-4 : tie.Need-cast-result-4
 cast-result-4 c = search needs
 
--- src/hex.rt:90:5
 add-result-3 : tie.Need-add-result-3
 add-result-3 c = search needs
 
--- src/hex.rt:82:1
 returns : tie.Need-returns
 unfolding fourAt
 returns c = rw (c .before .before .before .pair-at .ensures, c .before .before .pair-at2 .ensures, c .before .pair-at3 .ensures, c .pair-at4 .ensures)

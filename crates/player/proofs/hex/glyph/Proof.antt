@@ -1,3 +1,4 @@
+-- `player::hex::glyph` meets its contract: by the test against 10. Assumes nothing.
 use borrow.Author.Needs.{needs}
 use borrow.Author.Tests.{lt-ltb, le-ltb, le-leb, lt-leb}
 use Rattle.player.specs.Hex.{glyphOf}
@@ -6,20 +7,16 @@ use Rattle.player.proofs.hex.glyph.Tie as tie
 use Rattle.player.proofs.hex.glyph.Reads as reads
 use Rattle.player.proofs.hex.glyph.Lts as lts
 
--- src/hex.rt:54:17
 add-result : tie.Need-add-result
 add-result c = search needs
 
--- src/hex.rt:54:33
 add-result-2 : tie.Need-add-result-2
 add-result-2 c = search needs
 
--- src/hex.rt:50:1
 returns : tie.Need-returns
 unfolding glyphOf
 returns c = rw (lt-ltb _ _ (c .if1 .taken))
 
--- src/hex.rt:50:1
 returns-2 : tie.Need-returns-2
 unfolding glyphOf
 returns-2 c = rw (le-ltb _ _ (c .if1 .left))

@@ -1,3 +1,4 @@
+-- `player::hex::is_digit` meets its contract: by the two ranges of bytes. Assumes nothing.
 use borrow.Author.Needs.{needs}
 use Rattle.player.specs.Hex.{isDigit}
 use Rattle.player.proofs.hex.is_digit.Statement.{statement}
@@ -6,11 +7,9 @@ use Rattle.player.proofs.hex.is_digit.Reads as reads
 use Rattle.player.proofs.hex.is_digit.Lts as lts
 use Rattle.player.proofs.hex.digit.Reads as digit-reads
 
--- src/hex.rt:46:5
 digit-requires : tie.Need-digit-requires
 digit-requires c κs = search needs
 
--- src/hex.rt:43:1
 returns : tie.Need-returns
 unfolding isDigit
 returns c = rw (c .digit .ensures)

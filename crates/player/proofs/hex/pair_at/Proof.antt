@@ -1,3 +1,4 @@
+-- `player::hex::pair_at` meets its contract: two digits at their places. Assumes nothing.
 use borrow.Author.Needs.{needs}
 use Rattle.player.specs.Hex.{pairAt}
 use Rattle.player.proofs.hex.pair_at.Statement.{statement}
@@ -7,35 +8,27 @@ use Rattle.player.proofs.hex.pair_at.Lts as lts
 use Rattle.frames.proofs.byte_at.Reads as byte-at-reads
 use Rattle.player.proofs.hex.digit.Reads as digit-reads
 
--- src/hex.rt:76:22
 byte-at-requires : tie.Need-byte-at-requires
 byte-at-requires c κs = search needs
 
--- src/hex.rt:76:9
 digit-requires : tie.Need-digit-requires
 digit-requires c κs = search needs
 
--- src/hex.rt:77:35
 add-byte-at : tie.Need-add-byte-at
 add-byte-at c = search needs
 
--- src/hex.rt:77:21
 byte-at-requires-2 : tie.Need-byte-at-requires-2
 byte-at-requires-2 c κs = search needs
 
--- src/hex.rt:77:9
 digit-requires-2 : tie.Need-digit-requires-2
 digit-requires-2 c κs = search needs
 
--- src/hex.rt:78:5
 mul-result : tie.Need-mul-result
 mul-result c = search needs
 
--- src/hex.rt:78:5
 add-result : tie.Need-add-result
 add-result c = search needs
 
--- src/hex.rt:72:1
 returns : tie.Need-returns
 unfolding pairAt
 returns c = rw (c .before .before .digit .ensures, c .digit2 .ensures, c .before .before .before .byte-at .ensures, c .before .byte-at2 .ensures)

@@ -1,3 +1,4 @@
+-- `player::script::card_of` meets its contract: the fields of the line one after the other. Assumes nothing.
 use borrow.Author.Needs.{needs}
 use Rattle.player.specs.Script.{cardOf}
 use Rattle.player.proofs.script.card_of.Statement.{statement}
@@ -8,79 +9,60 @@ use Rattle.player.proofs.hex.four_at.Reads as four-at-reads
 use Rattle.player.proofs.hex.pair_at.Reads as pair-at-reads
 use Rattle.player.proofs.script.new_card.Reads as new-card-reads
 
--- src/script.rt:252:9
 four-at-requires : tie.Need-four-at-requires
 four-at-requires c κs = search needs
 
--- src/script.rt:253:9
 four-at-requires-2 : tie.Need-four-at-requires-2
 four-at-requires-2 c κs = search needs
 
--- src/script.rt:254:29
 cast-uid : tie.Need-cast-uid
 cast-uid c = search needs
 
--- src/script.rt:254:15
 mul-uid : tie.Need-mul-uid
 mul-uid c = search needs
 
--- src/script.rt:254:45
 cast-uid-2 : tie.Need-cast-uid-2
 cast-uid-2 c = search needs
 
--- src/script.rt:254:15
 add-uid : tie.Need-add-uid
 add-uid c = search needs
 
--- src/script.rt:255:9
 pair-at-requires : tie.Need-pair-at-requires
 pair-at-requires c κs = search needs
 
--- src/script.rt:256:9
 pair-at-requires-2 : tie.Need-pair-at-requires-2
 pair-at-requires-2 c κs = search needs
 
--- src/script.rt:257:25
 cast-blocks : tie.Need-cast-blocks
 cast-blocks c = search needs
 
--- src/script.rt:257:18
 mul-blocks : tie.Need-mul-blocks
 mul-blocks c = search needs
 
--- src/script.rt:257:42
 cast-blocks-2 : tie.Need-cast-blocks-2
 cast-blocks-2 c = search needs
 
--- src/script.rt:257:18
 add-blocks : tie.Need-add-blocks
 add-blocks c = search needs
 
--- src/script.rt:258:9
 pair-at-requires-3 : tie.Need-pair-at-requires-3
 pair-at-requires-3 c κs = search needs
 
--- src/script.rt:259:9
 pair-at-requires-4 : tie.Need-pair-at-requires-4
 pair-at-requires-4 c κs = search needs
 
--- src/script.rt:260:9
 pair-at-requires-5 : tie.Need-pair-at-requires-5
 pair-at-requires-5 c κs = search needs
 
--- src/script.rt:261:9
 pair-at-requires-6 : tie.Need-pair-at-requires-6
 pair-at-requires-6 c κs = search needs
 
--- src/script.rt:262:27
 cast-new-card : tie.Need-cast-new-card
 cast-new-card c = search needs
 
--- src/script.rt:262:5
 new-card-requires : tie.Need-new-card-requires
 new-card-requires c κs = search needs
 
--- src/script.rt:248:1
 returns : tie.Need-returns
 unfolding cardOf
 returns c = rw (c .new-card .ensures, c .before .before .before .before .before .before .before .before .four-at .ensures, c .before .before .before .before .before .before .before .four-at2 .ensures, c .before .before .before .before .before .before .pair-at .ensures, c .before .before .before .before .before .pair-at2 .ensures, c .before .before .before .before .pair-at3 .ensures, c .before .before .before .pair-at4 .ensures, c .before .before .pair-at5 .ensures, c .before .pair-at6 .ensures)

@@ -1,3 +1,4 @@
+-- `player::script::cells` meets its contract: a product of two bounded numbers. Assumes nothing.
 use borrow.Author.Needs.{needs}
 use native.Mathlib.Omega.{arith}
 use native.Mathlib.Nat.{mul-le-mul}
@@ -7,19 +8,15 @@ use Rattle.player.proofs.script.cells.Reads as reads
 use Rattle.player.proofs.script.cells.Lts as lts
 use Rattle.player.proofs.hex.least.Reads as least-reads
 
--- src/script.rt:130:9
 least-requires : tie.Need-least-requires
 least-requires c κs = search needs
 
--- src/script.rt:131:9
 least-requires-2 : tie.Need-least-requires-2
 least-requires-2 c κs = search needs
 
--- src/script.rt:132:5
 mul-result : tie.Need-mul-result
 mul-result c = omega (arith, mul-le-mul (c .before .least .ensures .1) (c .least2 .ensures .1))
 
--- src/script.rt:129:1
 returns : tie.Need-returns
 returns c = search needs
 

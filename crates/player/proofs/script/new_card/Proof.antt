@@ -1,3 +1,4 @@
+-- `player::script::new_card` meets its contract: both are the same record. Assumes nothing.
 use mathlib.Core.Path.{refl}
 use Rattle.player.specs.Script.{newCard}
 use Rattle.player.proofs.script.new_card.Statement.{statement}
@@ -5,7 +6,6 @@ use Rattle.player.proofs.script.new_card.Tie as tie
 use Rattle.player.proofs.script.new_card.Reads as reads
 use Rattle.player.proofs.script.new_card.Lts as lts
 
--- src/script.rt:34:1
 returns : tie.Need-returns
 unfolding newCard
 returns c = refl

@@ -1,3 +1,4 @@
+-- `rack::bench::bench` meets its contract: refused, a complaint or a report, each by its own law (BenchWays.antt). Assumes nothing.
 use borrow.Author.Needs.{needs}
 use native.Mathlib.Omega.{arith}
 use mathlib.Core.Path.{_∙_}
@@ -13,47 +14,36 @@ use Rattle.rack.proofs.output.put_complaint.Reads as put-complaint-read
 use Rattle.rack.proofs.output.put_report.Reads as put-report-reads
 use Rattle.rack.proofs.play.play.Reads as play-reads
 
--- src/bench.rt:19:9
 returns : tie.Need-returns
 returns c = prints-short _ _ (omega arith)
 
--- src/bench.rt:21:9
 read-requires : tie.Need-read-requires
 read-requires c κs = search needs
 
--- src/bench.rt:24:13
 put-complaint-requires : tie.Need-put-complaint-requires
 put-complaint-requires c κs = (omega (arith, c .before .before .read .ensures .bad, bad-line-most (c .before .before .before .before .before .before .args .input .now)), omega arith)
 
--- src/bench.rt:25:16
 cast-result : tie.Need-cast-result
 cast-result c = omega (arith, c .before .before .put-complaint .ensures .1)
 
--- src/bench.rt:25:9
 same-length : tie.Need-same-length
 same-length c = search needs
 
--- src/bench.rt:25:9
 returns-2 : tie.Need-returns-2
 returns-2 c = rw (toZ-pos w64 (c .before .before .put-complaint .result) (omega (arith, c .before .before .put-complaint .ensures .1))) (prints-complaint (c .before .before .before .before .before .before .before .before .before .args .input .now) _ _ (c .before .before .before .before .before .read .result) (c .before .before .put-complaint .result) (c .before .before .before .before .before .read .ensures) (c .before .before .before .before .if2 .taken) (omega arith) (c .before .before .put-complaint .ensures .0))
 
--- src/bench.rt:28:9
 play-requires : tie.Need-play-requires
 play-requires c κs = search needs
 
--- src/bench.rt:29:9
 put-report-requires : tie.Need-put-report-requires
 put-report-requires c κs = (rw (c .before .play .ensures) (ended-accepted _), omega arith)
 
--- src/bench.rt:30:5
 cast-result-2 : tie.Need-cast-result-2
 cast-result-2 c = omega (arith, c .before .before .put-report .ensures .1)
 
--- src/bench.rt:15:1
 same-length-2 : tie.Need-same-length-2
 same-length-2 c = search needs
 
--- src/bench.rt:15:1
 returns-3 : tie.Need-returns-3
 returns-3 c = rw (toZ-pos w64 (c .before .before .put-report .result) (omega (arith, c .before .before .put-report .ensures .1))) (prints-report (c .before .before .before .before .before .before .before .before .before .before .before .args .input .now) _ _ (c .before .before .before .before .before .before .before .read .result) (c .before .before .before .before .play .result) (c .before .before .put-report .result) (c .before .before .before .before .before .before .before .read .ensures) (omega arith) (c .before .before .before .before .play .ensures) (omega arith) (c .before .before .put-report .ensures .0))
 

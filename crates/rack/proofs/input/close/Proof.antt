@@ -1,3 +1,4 @@
+-- `rack::input::close` meets its contract: a last line that has begun ends with the input. Assumes nothing.
 use borrow.Author.Needs.{needs}
 use native.Mathlib.Omega.{arith}
 use Rattle.rack.proofs.LineWays.{closed-wrong, closed-between, closed-line}
@@ -7,19 +8,15 @@ use Rattle.rack.proofs.input.close.Reads as reads
 use Rattle.rack.proofs.input.close.Lts as lts
 use Rattle.rack.proofs.input.line_ended.Reads as line-ended-reads
 
--- src/input.rt:145:9
 returns : tie.Need-returns
 returns c = closed-wrong _ (c .if1 .taken)
 
--- src/input.rt:148:9
 returns-2 : tie.Need-returns-2
 returns-2 c = closed-between _ (omega arith) (omega arith)
 
--- src/input.rt:150:5
 line-ended-requires : tie.Need-line-ended-requires
 line-ended-requires c κs = search needs
 
--- src/input.rt:140:1
 returns-3 : tie.Need-returns-3
 returns-3 c = rw (c .line-ended .ensures) (closed-line _ (omega arith) (c .before .if2 .left))
 

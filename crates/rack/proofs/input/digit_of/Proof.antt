@@ -1,3 +1,4 @@
+-- `rack::input::digit_of` meets its contract: by the two ranges of bytes. Assumes nothing.
 use borrow.Author.Needs.{needs}
 use native.Mathlib.Omega.{arith}
 use Rattle.rack.proofs.LineWays.{digit-low, digit-0-9, digit-between, digit-A-F, digit-high}
@@ -6,35 +7,27 @@ use Rattle.rack.proofs.input.digit_of.Tie as tie
 use Rattle.rack.proofs.input.digit_of.Reads as reads
 use Rattle.rack.proofs.input.digit_of.Lts as lts
 
--- src/input.rt:33:9
 returns : tie.Need-returns
 returns c = digit-low _ (omega arith)
 
--- src/input.rt:36:16
 cast-result : tie.Need-cast-result
 cast-result c = search needs
 
--- src/input.rt:36:9
 returns-2 : tie.Need-returns-2
 returns-2 c = digit-0-9 _ (omega arith) (omega arith)
 
--- src/input.rt:39:9
 returns-3 : tie.Need-returns-3
 returns-3 c = digit-between _ (omega arith) (omega arith)
 
--- src/input.rt:42:16
 cast-result-2 : tie.Need-cast-result-2
 cast-result-2 c = search needs
 
--- src/input.rt:42:16
 add-result : tie.Need-add-result
 add-result c = search needs
 
--- src/input.rt:42:9
 returns-4 : tie.Need-returns-4
 returns-4 c = digit-A-F _ (omega arith) (omega arith)
 
--- src/input.rt:29:1
 returns-5 : tie.Need-returns-5
 returns-5 c = digit-high _ (omega arith)
 

@@ -1,3 +1,4 @@
+-- `rack::input::fresh` meets its contract: both are the same record of zeros. Assumes nothing.
 use mathlib.Core.Path.{refl}
 use Rattle.rack.specs.Lines.{noLines, freshLines}
 use Rattle.rack.proofs.input.fresh.Statement.{statement}
@@ -5,7 +6,6 @@ use Rattle.rack.proofs.input.fresh.Tie as tie
 use Rattle.rack.proofs.input.fresh.Reads as reads
 use Rattle.rack.proofs.input.fresh.Lts as lts
 
--- src/input.rt:16:1
 returns : tie.Need-returns
 unfolding noLines freshLines
 returns c = refl

@@ -1,3 +1,4 @@
+-- `rack::input::line_ended` meets its contract: a UID or a wrong line, by the tests in their order. Assumes nothing.
 use borrow.Author.Needs.{needs}
 use native.Mathlib.Omega.{arith}
 use Rattle.rack.proofs.LineWays.{ended-line-101, ended-uid, ended-short}
@@ -8,27 +9,21 @@ use Rattle.rack.proofs.input.line_ended.Lts as lts
 use Rattle.rack.proofs.input.listed.Reads as listed-reads
 use Rattle.rack.proofs.input.wrong.Reads as wrong-reads
 
--- src/input.rt:119:9
 wrong-requires : tie.Need-wrong-requires
 wrong-requires c κs = search needs
 
--- src/input.rt:119:9
 returns : tie.Need-returns
 returns c = rw (c .wrong .ensures) (ended-line-101 _ (omega arith))
 
--- src/input.rt:122:9
 listed-requires : tie.Need-listed-requires
 listed-requires c κs = search needs
 
--- src/input.rt:122:9
 returns-2 : tie.Need-returns-2
 returns-2 c = rw (c .listed .ensures) (ended-uid _ (omega arith) (omega arith))
 
--- src/input.rt:124:5
 wrong-requires-2 : tie.Need-wrong-requires-2
 wrong-requires-2 c κs = search needs
 
--- src/input.rt:114:1
 returns-3 : tie.Need-returns-3
 returns-3 c = rw (c .wrong2 .ensures) (ended-short _ (omega arith) (c .before .if2 .left))
 

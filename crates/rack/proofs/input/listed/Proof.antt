@@ -1,3 +1,4 @@
+-- `rack::input::listed` meets its contract: the UID stored at the first free place. Assumes nothing.
 use borrow.Author.Needs.{needs}
 use mathlib.Core.Path.{refl}
 use Rattle.rack.specs.Lines.{listed}
@@ -6,19 +7,15 @@ use Rattle.rack.proofs.input.listed.Tie as tie
 use Rattle.rack.proofs.input.listed.Reads as reads
 use Rattle.rack.proofs.input.listed.Lts as lts
 
--- src/input.rt:69:5
 mul-uids : tie.Need-mul-uids
 mul-uids c = search needs
 
--- src/input.rt:69:5
 array-write-uids : tie.Need-array-write-uids
 array-write-uids c = search needs
 
--- src/input.rt:72:16
 add-t4 : tie.Need-add-t4
 add-t4 c = search needs
 
--- src/input.rt:63:1
 returns : tie.Need-returns
 unfolding listed
 returns c = refl

@@ -1,3 +1,4 @@
+-- `rack::input::longer` meets its contract: a digit more or a wrong line, by the tests in their order. Assumes nothing.
 use borrow.Author.Needs.{needs}
 use native.Mathlib.Omega.{arith}
 use Rattle.rack.proofs.LineWays.{longer-line-101, longer-17th, longer-no-digit, longer-digit}
@@ -9,39 +10,30 @@ use Rattle.rack.proofs.input.digit_of.Reads as digit-of-reads
 use Rattle.rack.proofs.input.pushed.Reads as pushed-reads
 use Rattle.rack.proofs.input.wrong.Reads as wrong-reads
 
--- src/input.rt:100:9
 digit-of-requires : tie.Need-digit-of-requires
 digit-of-requires c κs = search needs
 
--- src/input.rt:102:9
 wrong-requires : tie.Need-wrong-requires
 wrong-requires c κs = search needs
 
--- src/input.rt:102:9
 returns : tie.Need-returns
 returns c = rw (c .wrong .ensures) (longer-line-101 _ _ (omega arith))
 
--- src/input.rt:105:9
 wrong-requires-2 : tie.Need-wrong-requires-2
 wrong-requires-2 c κs = search needs
 
--- src/input.rt:105:9
 returns-2 : tie.Need-returns-2
 returns-2 c = rw (c .wrong2 .ensures) (longer-17th _ _ (omega arith) (omega arith))
 
--- src/input.rt:108:9
 wrong-requires-3 : tie.Need-wrong-requires-3
 wrong-requires-3 c κs = search needs
 
--- src/input.rt:108:9
 returns-3 : tie.Need-returns-3
 returns-3 c = rw (c .wrong3 .ensures) (longer-no-digit _ _ _ (c .before .before .before .before .before .before .digit-of .ensures) (omega arith) (omega arith) (omega arith))
 
--- src/input.rt:110:5
 pushed-requires : tie.Need-pushed-requires
 pushed-requires c κs = search needs
 
--- src/input.rt:96:1
 returns-4 : tie.Need-returns-4
 returns-4 c = rw (c .pushed .ensures) (longer-digit _ _ _ (c .before .before .before .before .before .before .digit-of .ensures) (omega arith) (omega arith) (omega arith))
 

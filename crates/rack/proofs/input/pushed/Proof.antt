@@ -1,3 +1,4 @@
+-- `rack::input::pushed` meets its contract: the number so far moved up by a digit. Assumes nothing.
 use borrow.Author.Needs.{needs}
 use mathlib.Core.Path.{refl}
 use Rattle.rack.specs.Lines.{pushed}
@@ -6,15 +7,12 @@ use Rattle.rack.proofs.input.pushed.Tie as tie
 use Rattle.rack.proofs.input.pushed.Reads as reads
 use Rattle.rack.proofs.input.pushed.Lts as lts
 
--- src/input.rt:89:17
 add-t4 : tie.Need-add-t4
 add-t4 c = search needs
 
--- src/input.rt:90:17
 add-t6 : tie.Need-add-t6
 add-t6 c = search needs
 
--- src/input.rt:80:1
 returns : tie.Need-returns
 unfolding pushed
 returns c = refl

@@ -1,3 +1,4 @@
+-- `rack::input::take` meets its contract: the line's end or one more byte, by the test of the byte. Assumes nothing.
 use borrow.Author.Needs.{needs}
 use native.Mathlib.Omega.{arith}
 use Rattle.rack.proofs.LineWays.{stepped-end, stepped-longer}
@@ -8,19 +9,15 @@ use Rattle.rack.proofs.input.take.Lts as lts
 use Rattle.rack.proofs.input.line_ended.Reads as line-ended-reads
 use Rattle.rack.proofs.input.longer.Reads as longer-reads
 
--- src/input.rt:133:9
 line-ended-requires : tie.Need-line-ended-requires
 line-ended-requires c κs = search needs
 
--- src/input.rt:135:9
 longer-requires : tie.Need-longer-requires
 longer-requires c κs = search needs
 
--- src/input.rt:128:1
 returns : tie.Need-returns
 returns c = rw (c .line-ended .ensures) (stepped-end _ _ (omega arith))
 
--- src/input.rt:128:1
 returns-2 : tie.Need-returns-2
 returns-2 c = rw (c .longer .ensures) (stepped-longer _ _ (c .before .if1 .left))
 

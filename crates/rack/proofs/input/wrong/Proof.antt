@@ -1,3 +1,4 @@
+-- `rack::input::wrong` meets its contract: a record of the same fields with the line's number. Assumes nothing.
 use borrow.Author.Needs.{needs}
 use mathlib.Core.Path.{refl}
 use Rattle.rack.specs.Lines.{wrong}
@@ -6,11 +7,9 @@ use Rattle.rack.proofs.input.wrong.Tie as tie
 use Rattle.rack.proofs.input.wrong.Reads as reads
 use Rattle.rack.proofs.input.wrong.Lts as lts
 
--- src/input.rt:58:14
 add-t3 : tie.Need-add-t3
 add-t3 c = search needs
 
--- src/input.rt:48:1
 returns : tie.Need-returns
 unfolding wrong
 returns c = refl

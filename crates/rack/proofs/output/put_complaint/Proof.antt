@@ -1,3 +1,4 @@
+-- `rack::output::put_complaint` meets its contract: the words and the number, placed one after the other. Assumes nothing.
 use borrow.Author.Needs.{needs}
 use native.Mathlib.Omega.{arith}
 use Rattle.rack.specs.Output.{complaint}
@@ -9,27 +10,21 @@ use Rattle.rack.proofs.output.put_complaint.Lts as lts
 use Rattle.rack.proofs.output.put_bytes.Reads as put-bytes-reads
 use Rattle.rack.proofs.output.put_named.Reads as put-named-reads
 
--- src/output.rt:153:24
 slice-aggregate-put-named : tie.Need-slice-aggregate-put-named
 slice-aggregate-put-named c = search needs
 
--- src/output.rt:153:9
 put-named-requires : tie.Need-put-named-requires
 put-named-requires c κs = search needs
 
--- src/output.rt:154:15
 slice-aggregate-put-bytes : tie.Need-slice-aggregate-put-bytes
 slice-aggregate-put-bytes c = search needs
 
--- src/output.rt:154:5
 put-bytes-requires : tie.Need-put-bytes-requires
 put-bytes-requires c κs = search needs
 
--- src/output.rt:148:1
 same-length : tie.Need-same-length
 same-length c = search needs
 
--- src/output.rt:148:1
 returns : tie.Need-returns
 unfolding complaint
 returns c = (puts-start (puts-then (c .before .before .before .before .before .before .before .put-named .ensures .0) (c .before .before .put-bytes .ensures) (omega arith)), omega (arith, c .before .before .before .before .before .before .before .put-named .ensures .1, c .before .before .put-bytes .ensures .next))

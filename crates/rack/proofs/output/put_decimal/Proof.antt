@@ -1,3 +1,4 @@
+-- `rack::output::put_decimal` meets its contract: one, two or three digits, by the tests of the number. Assumes nothing.
 use borrow.Author.Needs.{needs}
 use native.Mathlib.Omega.{arith}
 use Rattle.rack.proofs.Printing.{puts-then, decimal-1, decimal-2, decimal-3}
@@ -7,51 +8,39 @@ use Rattle.rack.proofs.output.put_decimal.Reads as reads
 use Rattle.rack.proofs.output.put_decimal.Lts as lts
 use Rattle.rack.proofs.output.put_digit.Reads as put-digit-reads
 
--- src/output.rt:71:9
 put-digit-requires : tie.Need-put-digit-requires
 put-digit-requires c κs = search needs
 
--- src/output.rt:71:9
 same-length : tie.Need-same-length
 same-length c = search needs
 
--- src/output.rt:71:9
 returns : tie.Need-returns
 returns c = rw (decimal-1 (c .before .before .before .before .before .before .args .n) (omega arith)) (c .before .before .put-digit .ensures)
 
--- src/output.rt:74:13
 put-digit-requires-2 : tie.Need-put-digit-requires-2
 put-digit-requires-2 c κs = search needs
 
--- src/output.rt:75:9
 put-digit-requires-3 : tie.Need-put-digit-requires-3
 put-digit-requires-3 c κs = search needs
 
--- src/output.rt:75:9
 same-length-2 : tie.Need-same-length-2
 same-length-2 c = search needs
 
--- src/output.rt:75:9
 returns-2 : tie.Need-returns-2
 returns-2 c = rw (decimal-2 (c .before .before .before .before .before .before .before .before .before .before .before .args .n) (omega arith) (omega arith)) (puts-then (c .before .before .before .before .before .before .put-digit2 .ensures) (c .before .before .put-digit3 .ensures) (omega (arith, c .before .before .before .before .before .before .put-digit2 .ensures .next)))
 
--- src/output.rt:77:9
 put-digit-requires-4 : tie.Need-put-digit-requires-4
 put-digit-requires-4 c κs = search needs
 
--- src/output.rt:78:9
 put-digit-requires-5 : tie.Need-put-digit-requires-5
 put-digit-requires-5 c κs = search needs
 
--- src/output.rt:79:5
 put-digit-requires-6 : tie.Need-put-digit-requires-6
 put-digit-requires-6 c κs = search needs
 
--- src/output.rt:65:1
 same-length-3 : tie.Need-same-length-3
 same-length-3 c = search needs
 
--- src/output.rt:65:1
 returns-3 : tie.Need-returns-3
 returns-3 c = rw (decimal-3 (c .before .before .before .before .before .before .before .before .before .before .before .before .before .before .before .args .n) (omega arith)) (puts-then (puts-then (c .before .before .before .before .before .before .before .before .before .before .put-digit4 .ensures) (c .before .before .before .before .before .before .put-digit5 .ensures) (omega (arith, c .before .before .before .before .before .before .before .before .before .before .put-digit4 .ensures .next))) (c .before .before .put-digit6 .ensures) (omega (arith, c .before .before .before .before .before .before .before .before .before .before .put-digit4 .ensures .next, c .before .before .before .before .before .before .put-digit5 .ensures .next)))
 

@@ -1,3 +1,4 @@
+-- `rack::output::put_named` meets its contract: a name, a number and the line's end, placed one after the other. Assumes nothing.
 use borrow.Author.Needs.{needs}
 use native.Mathlib.Omega.{arith}
 use Rattle.rack.proofs.Printing.{puts-then, length-decimal, named-end}
@@ -9,19 +10,15 @@ use Rattle.rack.proofs.output.put_named.Lts as lts
 use Rattle.rack.proofs.output.put_bytes.Reads as put-bytes-reads
 use Rattle.rack.proofs.output.put_decimal.Reads as put-decimal-reads
 
--- src/output.rt:116:9
 put-bytes-requires : tie.Need-put-bytes-requires
 put-bytes-requires c κs = search needs
 
--- src/output.rt:117:5
 put-decimal-requires : tie.Need-put-decimal-requires
 put-decimal-requires c κs = search needs
 
--- src/output.rt:111:1
 same-length : tie.Need-same-length
 same-length c = search needs
 
--- src/output.rt:111:1
 returns : tie.Need-returns
 returns c = let puts = puts-then (c .before .before .before .before .before .before .put-bytes .ensures) (c .before .before .put-decimal .ensures) (omega (arith, c .before .before .before .before .before .before .put-bytes .ensures .next, length-decimal (c .before .before .before .before .before .before .before .before .before .before .args .n))) in (puts, named-end (c .before .before .before .before .before .before .before .before .before .before .args .name .now) (c .before .before .before .before .before .before .before .before .before .before .args .n) puts)
 

@@ -1,3 +1,4 @@
+-- `rack::output::put_report` meets its contract: its parts one after the other, each placed after the last (Printing.antt). Assumes nothing.
 use borrow.Author.Needs.{needs}
 use native.Mathlib.Omega.{arith}
 use Prim.Native.Nat.{_≤_}
@@ -12,55 +13,42 @@ use Rattle.rack.proofs.output.put_list.Reads as put-list-reads
 use Rattle.rack.proofs.output.put_named.Reads as put-named-reads
 use Rattle.rack.proofs.output.put_verdict.Reads as put-verdict-reads
 
--- src/output.rt:140:9
 put-verdict-requires : tie.Need-put-verdict-requires
 put-verdict-requires c κs = search needs
 
--- src/output.rt:141:20
 slice-aggregate-put-named : tie.Need-slice-aggregate-put-named
 slice-aggregate-put-named c = search needs
 
--- src/output.rt:141:34
 cast-put-named : tie.Need-cast-put-named
 cast-put-named c = search needs
 
--- src/output.rt:141:5
 put-named-requires : tie.Need-put-named-requires
 put-named-requires c κs = let fits = accepted-of-is-accepted (c .before .before .before .before .before .before .before .before .before .before .args .desk .walk) (c .before .before .before .before .before .before .before .before .before .before .pre .0) in (omega (arith, fits .last-round), omega arith)
 
--- src/output.rt:142:20
 slice-aggregate-put-named-2 : tie.Need-slice-aggregate-put-named-2
 slice-aggregate-put-named-2 c = search needs
 
--- src/output.rt:142:33
 cast-put-named-2 : tie.Need-cast-put-named-2
 cast-put-named-2 c = search needs
 
--- src/output.rt:142:5
 put-named-requires-2 : tie.Need-put-named-requires-2
 put-named-requires-2 c κs = search needs
 
--- src/output.rt:143:20
 slice-aggregate-put-bytes : tie.Need-slice-aggregate-put-bytes
 slice-aggregate-put-bytes c = search needs
 
--- src/output.rt:143:5
 put-bytes-requires : tie.Need-put-bytes-requires
 put-bytes-requires c κs = search needs
 
--- src/output.rt:144:20
 cast-put-list : tie.Need-cast-put-list
 cast-put-list c = search needs
 
--- src/output.rt:144:5
 put-list-requires : tie.Need-put-list-requires
 put-list-requires c κs = let fits = accepted-of-is-accepted (c .before .before .before .before .before .before .before .before .before .before .before .before .before .before .before .before .before .before .before .before .before .before .before .before .args .desk .walk) (c .before .before .before .before .before .before .before .before .before .before .before .before .before .before .before .before .before .before .before .before .before .before .before .before .pre .0) in (fits .count, omega (arith, fits .count))
 
--- src/output.rt:132:1
 same-length : tie.Need-same-length
 same-length c = search needs
 
--- src/output.rt:132:1
 returns : tie.Need-returns
 returns c =
     let args = c .before .before .before .before .before .before .before .before .before .before .before .before .before .before .before .before .before .before .before .before .before .before .before .before .before .before .before .args in

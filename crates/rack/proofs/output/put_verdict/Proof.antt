@@ -1,3 +1,4 @@
+-- `rack::output::put_verdict` meets its contract: the word by the ending, case by case. Assumes nothing.
 use borrow.Author.Needs.{needs}
 use native.Mathlib.Omega.{arith}
 use Rattle.rack.proofs.Printing.{puts-then, length-word}
@@ -8,23 +9,18 @@ use Rattle.rack.proofs.output.put_verdict.Lts as lts
 use Rattle.rack.proofs.output.put_bytes.Reads as put-bytes-reads
 use Rattle.rack.proofs.output.put_word.Reads as put-word-reads
 
--- src/output.rt:125:26
 slice-aggregate-put-bytes : tie.Need-slice-aggregate-put-bytes
 slice-aggregate-put-bytes c = search needs
 
--- src/output.rt:125:9
 put-bytes-requires : tie.Need-put-bytes-requires
 put-bytes-requires c κs = search needs
 
--- src/output.rt:126:5
 put-word-requires : tie.Need-put-word-requires
 put-word-requires c κs = search needs
 
--- src/output.rt:121:1
 same-length : tie.Need-same-length
 same-length c = search needs
 
--- src/output.rt:121:1
 returns : tie.Need-returns
 returns c = (puts-then (c .before .before .before .before .before .before .put-bytes .ensures) (c .before .before .put-word .ensures) (omega (arith, c .before .before .before .before .before .before .put-bytes .ensures .next, length-word (c .before .before .before .before .before .before .before .before .before .before .args .ending))), omega (arith, c .before .before .before .before .before .before .put-bytes .ensures .next, c .before .before .put-word .ensures .next, length-word (c .before .before .before .before .before .before .before .before .before .before .args .ending)))
 

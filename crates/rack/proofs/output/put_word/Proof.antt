@@ -1,3 +1,4 @@
+-- `rack::output::put_word` meets its contract: the bytes of a word, one stored after the other. Assumes nothing.
 use borrow.Author.Needs.{needs}
 use borrow.Author.Tests.{eq-eqb, ne-eqb}
 use Rattle.rack.specs.Output.{word}
@@ -7,70 +8,54 @@ use Rattle.rack.proofs.output.put_word.Reads as reads
 use Rattle.rack.proofs.output.put_word.Lts as lts
 use Rattle.rack.proofs.output.put_bytes.Reads as put-bytes-reads
 
--- src/output.rt:32:26
 slice-aggregate-put-bytes : tie.Need-slice-aggregate-put-bytes
 slice-aggregate-put-bytes c = search needs
 
--- src/output.rt:32:9
 put-bytes-requires : tie.Need-put-bytes-requires
 put-bytes-requires c κs = search needs
 
--- src/output.rt:32:9
 same-length : tie.Need-same-length
 same-length c = search needs
 
--- src/output.rt:32:9
 returns : tie.Need-returns
 unfolding word
 returns c = rw (eq-eqb (c .before .before .before .before .before .before .before .args .ending) 1 (c .before .before .before .before .before .if1 .taken)) (c .before .before .put-bytes .ensures)
 
--- src/output.rt:35:26
 slice-aggregate-put-bytes-2 : tie.Need-slice-aggregate-put-bytes-2
 slice-aggregate-put-bytes-2 c = search needs
 
--- src/output.rt:35:9
 put-bytes-requires-2 : tie.Need-put-bytes-requires-2
 put-bytes-requires-2 c κs = search needs
 
--- src/output.rt:35:9
 same-length-2 : tie.Need-same-length-2
 same-length-2 c = search needs
 
--- src/output.rt:35:9
 returns-2 : tie.Need-returns-2
 unfolding word
 returns-2 c = rw (ne-eqb (c .before .before .before .before .before .before .before .before .args .ending) 1 (c .before .before .before .before .before .before .if1 .left), eq-eqb (c .before .before .before .before .before .before .before .before .args .ending) 2 (c .before .before .before .before .before .if2 .taken)) (c .before .before .put-bytes2 .ensures)
 
--- src/output.rt:38:26
 slice-aggregate-put-bytes-3 : tie.Need-slice-aggregate-put-bytes-3
 slice-aggregate-put-bytes-3 c = search needs
 
--- src/output.rt:38:9
 put-bytes-requires-3 : tie.Need-put-bytes-requires-3
 put-bytes-requires-3 c κs = search needs
 
--- src/output.rt:38:9
 same-length-3 : tie.Need-same-length-3
 same-length-3 c = search needs
 
--- src/output.rt:38:9
 returns-3 : tie.Need-returns-3
 unfolding word
 returns-3 c = rw (ne-eqb (c .before .before .before .before .before .before .before .before .before .args .ending) 1 (c .before .before .before .before .before .before .before .if1 .left), ne-eqb (c .before .before .before .before .before .before .before .before .before .args .ending) 2 (c .before .before .before .before .before .before .if2 .left), eq-eqb (c .before .before .before .before .before .before .before .before .before .args .ending) 3 (c .before .before .before .before .before .if3 .taken)) (c .before .before .put-bytes3 .ensures)
 
--- src/output.rt:40:15
 slice-aggregate-put-bytes-4 : tie.Need-slice-aggregate-put-bytes-4
 slice-aggregate-put-bytes-4 c = search needs
 
--- src/output.rt:40:5
 put-bytes-requires-4 : tie.Need-put-bytes-requires-4
 put-bytes-requires-4 c κs = search needs
 
--- src/output.rt:27:1
 same-length-4 : tie.Need-same-length-4
 same-length-4 c = search needs
 
--- src/output.rt:27:1
 returns-4 : tie.Need-returns-4
 unfolding word
 returns-4 c = rw (ne-eqb (c .before .before .before .before .before .before .before .before .before .args .ending) 1 (c .before .before .before .before .before .before .before .if1 .left), ne-eqb (c .before .before .before .before .before .before .before .before .before .args .ending) 2 (c .before .before .before .before .before .before .if2 .left), ne-eqb (c .before .before .before .before .before .before .before .before .before .args .ending) 3 (c .before .before .before .before .before .if3 .left)) (c .before .before .put-bytes4 .ensures)
