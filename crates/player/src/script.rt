@@ -125,7 +125,7 @@ impl Player {
     }
 }
 
-// How much of the memory is the card's: a shape outside the limits has none.
+// How much of the memory is the card's, 8,192 bytes at the most. A shape outside the limits is refused by the card.
 fn cells(blocks: u32, size: u32) -> usize {
     let b = least(blocks as usize, 256);
     let s = least(size as usize, 32);

@@ -5,10 +5,6 @@ use mathlib.Core.Path.{_≡_, refl}
 use lib.ListN.{length}
 use Rattle.player.proofs.play_all.Statement.{statement}
 use Rattle.player.proofs.play_all.Tie as tie
-use Rattle.player.proofs.play_all.Reads as reads
-use Rattle.player.proofs.play_all.Lts as lts
-use Rattle.player.proofs.play_some.Reads as play-some-reads
-use Rattle.player.proofs.script.Player.new.Reads as new-reads
 
 abbrev Inv-loop : tie.InvT-loop
 Inv-loop line₀ memory₀ locks₀ room₀ player₀ turns₀ line memory locks room player turns = (length line ≡ length line₀) × (length memory ≡ length memory₀) × (length locks ≡ length locks₀) × (length room ≡ length room₀)

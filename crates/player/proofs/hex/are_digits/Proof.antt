@@ -8,11 +8,6 @@ use Rattle.player.specs.Hex.{areDigits}
 use Rattle.player.proofs.Rows.{digits-suc}
 use Rattle.player.proofs.hex.are_digits.Statement.{statement}
 use Rattle.player.proofs.hex.are_digits.Tie as tie
-use Rattle.player.proofs.hex.are_digits.Reads as reads
-use Rattle.player.proofs.hex.are_digits.Lts as lts
-use Rattle.frames.proofs.byte_at.Reads as byte-at-reads
-use Rattle.player.proofs.hex.both.Reads as both-reads
-use Rattle.player.proofs.hex.is_digit.Reads as is-digit-reads
 
 abbrev Inv-loop : tie.InvT-loop
 Inv-loop text at n good₀ i₀ good i = (i ≤ n) × (good ≡ areDigits text at i)

@@ -1,11 +1,9 @@
--- `player::hex::digit` meets its contract: by the two ranges of bytes. Assumes nothing.
+-- `player::hex::digit` meets its contract: the definition goes by the same four tests. Assumes nothing.
 use borrow.Author.Needs.{needs}
 use borrow.Author.Tests.{lt-ltb, le-ltb, le-leb, lt-leb}
 use Rattle.player.specs.Hex.{digitOf}
 use Rattle.player.proofs.hex.digit.Statement.{statement}
 use Rattle.player.proofs.hex.digit.Tie as tie
-use Rattle.player.proofs.hex.digit.Reads as reads
-use Rattle.player.proofs.hex.digit.Lts as lts
 
 returns : tie.Need-returns
 unfolding digitOf

@@ -1,11 +1,8 @@
--- `player::hex::four_at` meets its contract: four pairs, the highest first. Assumes nothing.
+-- `player::hex::four_at` meets its contract, by the promise of `pair_at`. Assumes nothing.
 use borrow.Author.Needs.{needs}
 use Rattle.player.specs.Hex.{fourAt}
 use Rattle.player.proofs.hex.four_at.Statement.{statement}
 use Rattle.player.proofs.hex.four_at.Tie as tie
-use Rattle.player.proofs.hex.four_at.Reads as reads
-use Rattle.player.proofs.hex.four_at.Lts as lts
-use Rattle.player.proofs.hex.pair_at.Reads as pair-at-reads
 
 pair-at-requires : tie.Need-pair-at-requires
 pair-at-requires c κs = search needs

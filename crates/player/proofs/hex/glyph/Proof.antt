@@ -1,11 +1,9 @@
--- `player::hex::glyph` meets its contract: by the test against 10. Assumes nothing.
+-- `player::hex::glyph` meets its contract, by its one test. Assumes nothing.
 use borrow.Author.Needs.{needs}
 use borrow.Author.Tests.{lt-ltb, le-ltb, le-leb, lt-leb}
 use Rattle.player.specs.Hex.{glyphOf}
 use Rattle.player.proofs.hex.glyph.Statement.{statement}
 use Rattle.player.proofs.hex.glyph.Tie as tie
-use Rattle.player.proofs.hex.glyph.Reads as reads
-use Rattle.player.proofs.hex.glyph.Lts as lts
 
 add-result : tie.Need-add-result
 add-result c = search needs

@@ -3,11 +3,6 @@ use Rattle.player.specs.Hex.{isPlaced}
 use borrow.Author.Needs.{needs}
 use Rattle.player.proofs.hex.is_placed.Statement.{statement}
 use Rattle.player.proofs.hex.is_placed.Tie as tie
-use Rattle.player.proofs.hex.is_placed.Reads as reads
-use Rattle.player.proofs.hex.is_placed.Lts as lts
-use Rattle.frames.proofs.byte_at.Reads as byte-at-reads
-use Rattle.player.proofs.hex.are_digits.Reads as are-digits-reads
-use Rattle.player.proofs.hex.both.Reads as both-reads
 
 byte-at-requires : tie.Need-byte-at-requires
 byte-at-requires c κs = search needs

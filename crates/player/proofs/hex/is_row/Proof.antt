@@ -9,10 +9,6 @@ use Rattle.player.specs.Hex.{arePlaced, isRow}
 use Rattle.player.proofs.Rows.{placed-suc}
 use Rattle.player.proofs.hex.is_row.Statement.{statement}
 use Rattle.player.proofs.hex.is_row.Tie as tie
-use Rattle.player.proofs.hex.is_row.Reads as reads
-use Rattle.player.proofs.hex.is_row.Lts as lts
-use Rattle.player.proofs.hex.both.Reads as both-reads
-use Rattle.player.proofs.hex.is_placed.Reads as is-placed-reads
 
 abbrev Inv-loop : tie.InvT-loop
 Inv-loop text n good₀ i₀ good i = (i ≤ n) × (good ≡ arePlaced (eqb (length text % 3) 0) text i)

@@ -1,12 +1,8 @@
--- `player::hex::pair_at` meets its contract: two digits at their places. Assumes nothing.
+-- `player::hex::pair_at` meets its contract, by the promises of what it calls. Assumes nothing.
 use borrow.Author.Needs.{needs}
 use Rattle.player.specs.Hex.{pairAt}
 use Rattle.player.proofs.hex.pair_at.Statement.{statement}
 use Rattle.player.proofs.hex.pair_at.Tie as tie
-use Rattle.player.proofs.hex.pair_at.Reads as reads
-use Rattle.player.proofs.hex.pair_at.Lts as lts
-use Rattle.frames.proofs.byte_at.Reads as byte-at-reads
-use Rattle.player.proofs.hex.digit.Reads as digit-reads
 
 byte-at-requires : tie.Need-byte-at-requires
 byte-at-requires c κs = search needs

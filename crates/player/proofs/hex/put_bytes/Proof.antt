@@ -10,9 +10,6 @@ use Rattle.player.specs.Hex.{rowBytes}
 use Rattle.player.proofs.Rows.{set-row-bytes, puts-bytes}
 use Rattle.player.proofs.hex.put_bytes.Statement.{statement}
 use Rattle.player.proofs.hex.put_bytes.Tie as tie
-use Rattle.player.proofs.hex.put_bytes.Reads as reads
-use Rattle.player.proofs.hex.put_bytes.Lts as lts
-use Rattle.player.proofs.hex.pair_at.Reads as pair-at-reads
 
 abbrev Inv-loop : tie.InvT-loop
 Inv-loop text bytes₀ n i₀ bytes i = (i ≤ n) × (length bytes ≡ length bytes₀) × (bytes ≡ placed 0 (rowBytes text i) bytes₀)

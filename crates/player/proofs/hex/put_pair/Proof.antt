@@ -5,9 +5,6 @@ use Rattle.player.proofs.Rows.{puts-pair}
 use borrow.Author.Needs.{needs}
 use Rattle.player.proofs.hex.put_pair.Statement.{statement}
 use Rattle.player.proofs.hex.put_pair.Tie as tie
-use Rattle.player.proofs.hex.put_pair.Reads as reads
-use Rattle.player.proofs.hex.put_pair.Lts as lts
-use Rattle.player.proofs.hex.glyph.Reads as glyph-reads
 
 slice-write-text : tie.Need-slice-write-text
 slice-write-text c = search needs

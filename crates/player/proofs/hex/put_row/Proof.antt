@@ -10,9 +10,6 @@ use Rattle.player.specs.Hex.{rowText}
 use Rattle.player.proofs.Rows.{length-pair-text, put-pair-more, puts-row}
 use Rattle.player.proofs.hex.put_row.Statement.{statement}
 use Rattle.player.proofs.hex.put_row.Tie as tie
-use Rattle.player.proofs.hex.put_row.Reads as reads
-use Rattle.player.proofs.hex.put_row.Lts as lts
-use Rattle.player.proofs.hex.put_pair.Reads as put-pair-reads
 
 abbrev Inv-loop : tie.InvT-loop
 Inv-loop bytes text₀ at₀ i₀ text at i = (i ≤ length bytes) × (at ≡ 3 * i) × (length text ≡ length text₀) × (text ≡ placed 0 (rowText bytes i) text₀)

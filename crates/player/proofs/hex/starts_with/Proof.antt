@@ -9,10 +9,6 @@ use Rattle.player.specs.Hex.{agrees, startsWith}
 use Rattle.player.proofs.Rows.{agrees-suc}
 use Rattle.player.proofs.hex.starts_with.Statement.{statement}
 use Rattle.player.proofs.hex.starts_with.Tie as tie
-use Rattle.player.proofs.hex.starts_with.Reads as reads
-use Rattle.player.proofs.hex.starts_with.Lts as lts
-use Rattle.frames.proofs.byte_at.Reads as byte-at-reads
-use Rattle.player.proofs.hex.both.Reads as both-reads
 
 abbrev Inv-loop : tie.InvT-loop
 Inv-loop text word good₀ i₀ good i = (i ≤ length word) × (good ≡ agrees (leb (length word) (length text)) text word i)

@@ -1,13 +1,8 @@
--- `player::script::card_of` meets its contract: the fields of the line one after the other. Assumes nothing.
+-- `player::script::card_of` meets its contract, by the promises of what it calls. Assumes nothing.
 use borrow.Author.Needs.{needs}
 use Rattle.player.specs.Script.{cardOf}
 use Rattle.player.proofs.script.card_of.Statement.{statement}
 use Rattle.player.proofs.script.card_of.Tie as tie
-use Rattle.player.proofs.script.card_of.Reads as reads
-use Rattle.player.proofs.script.card_of.Lts as lts
-use Rattle.player.proofs.hex.four_at.Reads as four-at-reads
-use Rattle.player.proofs.hex.pair_at.Reads as pair-at-reads
-use Rattle.player.proofs.script.new_card.Reads as new-card-reads
 
 four-at-requires : tie.Need-four-at-requires
 four-at-requires c κs = search needs

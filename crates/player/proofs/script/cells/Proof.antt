@@ -1,12 +1,9 @@
--- `player::script::cells` meets its contract: a product of two bounded numbers. Assumes nothing.
+-- `player::script::cells` is safe and ends: 256 times 32 is small. Assumes nothing.
 use borrow.Author.Needs.{needs}
 use native.Mathlib.Omega.{arith}
 use native.Mathlib.Nat.{mul-le-mul}
 use Rattle.player.proofs.script.cells.Statement.{statement}
 use Rattle.player.proofs.script.cells.Tie as tie
-use Rattle.player.proofs.script.cells.Reads as reads
-use Rattle.player.proofs.script.cells.Lts as lts
-use Rattle.player.proofs.hex.least.Reads as least-reads
 
 least-requires : tie.Need-least-requires
 least-requires c κs = search needs

@@ -5,11 +5,6 @@ use lib.Seq.{length-take-le}
 use borrow.Author.Needs.{needs}
 use Rattle.player.proofs.script.end_line.Statement.{statement}
 use Rattle.player.proofs.script.end_line.Tie as tie
-use Rattle.player.proofs.script.end_line.Reads as reads
-use Rattle.player.proofs.script.end_line.Lts as lts
-use Rattle.player.proofs.hex.least.Reads as least-reads
-use Rattle.player.proofs.script.Player.bad_line.Reads as bad-line-reads
-use Rattle.player.proofs.script.hear_line.Reads as hear-line-reads
 
 bad-line-requires : tie.Need-bad-line-requires
 bad-line-requires c κs = search needs

@@ -6,12 +6,6 @@ use Rattle.player.proofs.Rows.{bytes-count}
 use borrow.Author.Needs.{needs}
 use Rattle.player.proofs.script.hear_frame.Statement.{statement}
 use Rattle.player.proofs.script.hear_frame.Tie as tie
-use Rattle.player.proofs.script.hear_frame.Reads as reads
-use Rattle.player.proofs.script.hear_frame.Lts as lts
-use Rattle.player.proofs.hex.is_row.Reads as is-row-reads
-use Rattle.player.proofs.hex.put_bytes.Reads as put-bytes-reads
-use Rattle.player.proofs.script.Player.bad_line.Reads as bad-line-reads
-use Rattle.player.proofs.script.frame_event.Reads as frame-event-reads
 
 bad-line-requires : tie.Need-bad-line-requires
 bad-line-requires c κs = search needs

@@ -6,9 +6,6 @@ use Prim.Native.Nat.{_-_, _≤_}
 use lib.ListN.{length}
 use Rattle.player.proofs.script.hear_piece.Statement.{statement}
 use Rattle.player.proofs.script.hear_piece.Tie as tie
-use Rattle.player.proofs.script.hear_piece.Reads as reads
-use Rattle.player.proofs.script.hear_piece.Lts as lts
-use Rattle.player.proofs.script.hear_byte.Reads as hear-byte-reads
 
 abbrev Inv-loop : tie.InvT-loop
 Inv-loop piece line₀ memory₀ locks₀ room₀ next₀ i₀ line memory locks room next i = (i ≤ length piece) × (length line ≡ length line₀) × (length memory ≡ length memory₀) × (length locks ≡ length locks₀) × (length room ≡ length room₀)

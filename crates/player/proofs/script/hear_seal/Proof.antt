@@ -6,13 +6,6 @@ use Rattle.player.proofs.Rows.{bytes-count}
 use borrow.Author.Needs.{needs}
 use Rattle.player.proofs.script.hear_seal.Statement.{statement}
 use Rattle.player.proofs.script.hear_seal.Tie as tie
-use Rattle.player.proofs.script.hear_seal.Reads as reads
-use Rattle.player.proofs.script.hear_seal.Lts as lts
-use Rattle.frames.proofs.seal.Reads as seal-reads
-use Rattle.player.proofs.hex.is_row.Reads as is-row-reads
-use Rattle.player.proofs.hex.put_bytes.Reads as put-bytes-reads
-use Rattle.player.proofs.script.Player.bad_line.Reads as bad-line-reads
-use Rattle.player.proofs.script.frame_event.Reads as frame-event-reads
 
 bad-line-requires : tie.Need-bad-line-requires
 bad-line-requires c κs = search needs

@@ -7,12 +7,6 @@ use borrow.Author.Tests.{eq-eqb, ne-eqb, not-true, not-false}
 use Rattle.player.specs.Script.{isCard, cardWord}
 use Rattle.player.proofs.script.is_card.Statement.{statement}
 use Rattle.player.proofs.script.is_card.Tie as tie
-use Rattle.player.proofs.script.is_card.Reads as reads
-use Rattle.player.proofs.script.is_card.Lts as lts
-use Rattle.frames.proofs.byte_at.Reads as byte-at-reads
-use Rattle.player.proofs.hex.are_digits.Reads as are-digits-reads
-use Rattle.player.proofs.hex.is_row.Reads as is-row-reads
-use Rattle.player.proofs.hex.starts_with.Reads as starts-with-reads
 
 returns : tie.Need-returns
 unfolding isCard cardWord

@@ -1,10 +1,8 @@
--- `player::script::new_card` meets its contract: both are the same record. Assumes nothing.
+-- `player::script::new_card` meets its contract: the definition is the same record. Assumes nothing.
 use mathlib.Core.Path.{refl}
 use Rattle.player.specs.Script.{newCard}
 use Rattle.player.proofs.script.new_card.Statement.{statement}
 use Rattle.player.proofs.script.new_card.Tie as tie
-use Rattle.player.proofs.script.new_card.Reads as reads
-use Rattle.player.proofs.script.new_card.Lts as lts
 
 returns : tie.Need-returns
 unfolding newCard

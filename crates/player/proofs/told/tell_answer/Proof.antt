@@ -5,12 +5,6 @@ use lib.Seq.{length-take-le}
 use borrow.Author.Needs.{needs}
 use Rattle.player.proofs.told.tell_answer.Statement.{statement}
 use Rattle.player.proofs.told.tell_answer.Tie as tie
-use Rattle.player.proofs.told.tell_answer.Reads as reads
-use Rattle.player.proofs.told.tell_answer.Lts as lts
-use Rattle.io.proofs.print_decimal.Reads as print-decimal-reads
-use Rattle.io.proofs.write_all.Reads as write-all-reads
-use Rattle.player.proofs.hex.least.Reads as least-reads
-use Rattle.player.proofs.told.tell_bytes.Reads as tell-bytes-reads
 
 slice-aggregate-write-all : tie.Need-slice-aggregate-write-all
 slice-aggregate-write-all c = search needs

@@ -6,11 +6,6 @@ use Rattle.player.proofs.Rows.{row-count}
 use borrow.Author.Needs.{needs}
 use Rattle.player.proofs.told.tell_bytes.Statement.{statement}
 use Rattle.player.proofs.told.tell_bytes.Tie as tie
-use Rattle.player.proofs.told.tell_bytes.Reads as reads
-use Rattle.player.proofs.told.tell_bytes.Lts as lts
-use Rattle.player.proofs.hex.least.Reads as least-reads
-use Rattle.player.proofs.hex.put_row.Reads as put-row-reads
-use Rattle.player.proofs.told.tell_row.Reads as tell-row-reads
 
 least-requires : tie.Need-least-requires
 least-requires c κs = search needs

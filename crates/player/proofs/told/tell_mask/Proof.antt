@@ -6,11 +6,6 @@ use Rattle.player.proofs.Rows.{row-count}
 use borrow.Author.Needs.{needs}
 use Rattle.player.proofs.told.tell_mask.Statement.{statement}
 use Rattle.player.proofs.told.tell_mask.Tie as tie
-use Rattle.player.proofs.told.tell_mask.Reads as reads
-use Rattle.player.proofs.told.tell_mask.Lts as lts
-use Rattle.frames.proofs.put_field.Reads as put-field-reads
-use Rattle.io.proofs.write_all.Reads as write-all-reads
-use Rattle.player.proofs.hex.put_row.Reads as put-row-reads
 
 slice-aggregate-put-field : tie.Need-slice-aggregate-put-field
 slice-aggregate-put-field c = search needs
