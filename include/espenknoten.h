@@ -18,7 +18,7 @@
  * and has then changed no byte. A call that is served leaves the bytes past
  * its result as it found them.
  *
- * The archive libboard.a links into x86-64 programs only.
+ * The archive links into x86-64 programs only.
  */
 #ifndef ESPENKNOTEN_H
 #define ESPENKNOTEN_H
@@ -217,8 +217,11 @@ int64_t ek_card_power_off(uint8_t *record, size_t record_length,
  *
  * The record has no hidden part: it may be copied, kept and read at any time.
  * Its pointer is never NULL, and it overlaps no buffer of the same call.
- * Every value of every field has a meaning; records that a walk can't have
- * come to are refused with EK_REFUSED_WALK and are left as they are.
+ * Every value of every field has a meaning. A call that gives EK_REFUSED_WALK
+ * has left the record as it is: its level or slot is over 15, its count over
+ * EK_LIST_PLACES, its rounds are 0 or over EK_WALK_ROUNDS_MAX, its mask has a
+ * bit above the low 4 * level, or a mark stands at a level deeper than its own
+ * or at the last.
  */
 struct ek_walk {
     uint16_t marks[16]; /* for each level: bit s is set while slot s clashed
