@@ -12,7 +12,7 @@ help:
 	@echo 'make lib      prove the library and write $(lib)'
 	@echo 'make test     the whole gate: every proof, every must-fail edit, every comparison'
 	@echo 'make compare  hold the library against the independent implementation'
-	@echo 'make bench    time the library beside a plain C program'
+	@echo 'make bench    time the library and the bench program beside plain C'
 
 lib:
 	rt staticlib board
@@ -43,4 +43,5 @@ compare:
 	VECTORS_DIR='$(CURDIR)/vectors' target/independent/release/comparison
 
 bench: lib
+	rt check bench
 	bench/run
