@@ -26,7 +26,7 @@ help:
 	@echo 'make install  programs, library, header, pkg-config file and man pages below PREFIX ($(PREFIX)); make uninstall takes them away'
 	@echo 'make test     the whole gate: every proof, every must-fail edit, every comparison'
 	@echo 'make compare  hold the library against the independent implementation'
-	@echo 'make bench    time the library beside a plain C program'
+	@echo 'make bench    time the library and the bench program beside plain C'
 
 lib: $(lib)
 
@@ -63,6 +63,7 @@ compare:
 	VECTORS_DIR='$(CURDIR)/vectors' target/independent/release/comparison
 
 bench: lib
+	rt check bench
 	bench/run
 
 install: lib programs

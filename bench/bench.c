@@ -1,8 +1,7 @@
 /*
  * The library's check, coder, decoder and card beside the same in plain C.
- * Both take turns at the clock. A machine is never quite still, so each figure
- * is the median of many rounds. The script run makes a table of what is printed
- * here.
+ * Both take turns at the clock. The script run makes a table of what is
+ * printed here.
  */
 #include <stdio.h>
 #include <stdlib.h>
@@ -30,10 +29,11 @@ struct side {
                     size_t, uint8_t *, size_t);
 };
 
-static const struct side OURS = {ek_check, ek_code, ek_decode, ek_card_frame,
-                                 ek_card_mark};
-static const struct side PLAIN = {plain_check, plain_code, plain_decode,
-                                  plain_card_frame, plain_card_mark};
+static const struct side SIDES[] = {
+    [OURS] = {ek_check, ek_code, ek_decode, ek_card_frame, ek_card_mark},
+    [PLAIN] = {plain_check, plain_code, plain_decode, plain_card_frame,
+               plain_card_mark},
+};
 
 enum task { CHECK, CODE, DECODE, FRAME, MARK };
 
@@ -73,10 +73,6 @@ static uint8_t records[FRAMES][EK_CARD_RECORD];
 static uint8_t memories[FRAMES][BLOCKS * SIZE];
 static uint8_t locks[FRAMES][BLOCKS];
 static uint8_t sealed[4 + 2];
-
-/* Nanoseconds of each turn, and how often a turn takes all frames. */
-static double ours[ROW_COUNT][ROUNDS], plain[ROW_COUNT][ROUNDS];
-static unsigned passes[ROW_COUNT];
 
 /* Takes every answer, so that no call can be left out. */
 static volatile uint64_t sink;
@@ -126,9 +122,15 @@ static void fill_message(const struct row *row)
     ek_seal(sealed, sizeof sealed, row->length);
 }
 
-/* What a row's turn works on. */
-static void prepare(const struct row *row)
+static const char *name(size_t i)
 {
+    return ROWS[i].name;
+}
+
+/* What a row's turn works on. */
+static void prepare(size_t i)
+{
+    const struct row *row = &ROWS[i];
     if (row->task == FRAME) {
         fill_message(row);
     } else if (row->task != MARK) {
@@ -136,14 +138,15 @@ static void prepare(const struct row *row)
     }
 }
 
-/* Nanoseconds for all frames, count times over. */
-static double turn(const struct side *side, const struct row *row,
-                   unsigned count)
+/* A pass takes all frames. */
+static double turn(size_t i, enum who who, unsigned passes)
 {
+    const struct row *row = &ROWS[i];
+    const struct side *side = &SIDES[who];
     uint8_t frame[EK_FRAME_MAX], record[EK_CARD_RECORD], answer[ROOM];
     uint64_t sum = 0;
     double start = now_ns();
-    for (unsigned pass = 0; pass < count; pass++) {
+    for (unsigned pass = 0; pass < passes; pass++) {
         for (size_t f = 0; f < FRAMES; f++) {
             switch (row->task) {
             case CHECK:
@@ -180,49 +183,6 @@ static double turn(const struct side *side, const struct row *row,
     return spent;
 }
 
-static unsigned passes_for(const struct row *row)
-{
-    unsigned count = 1;
-    while (turn(&OURS, row, count) < TURN_NS ||
-           turn(&PLAIN, row, count) < TURN_NS) {
-        count *= 2;
-    }
-    return count;
-}
-
-/* Every row has a turn in every round, so that a busy spell of the machine
- * falls on all of them. Who goes first changes from round to round. */
-static void measure(void)
-{
-    for (size_t i = 0; i < ROW_COUNT; i++) {
-        prepare(&ROWS[i]);
-        passes[i] = passes_for(&ROWS[i]);
-    }
-    for (int round = 0; round < ROUNDS; round++) {
-        for (size_t i = 0; i < ROW_COUNT; i++) {
-            const struct row *row = &ROWS[i];
-            prepare(row);
-            if (round % 2 == 0) {
-                ours[i][round] = turn(&OURS, row, passes[i]);
-                plain[i][round] = turn(&PLAIN, row, passes[i]);
-            } else {
-                plain[i][round] = turn(&PLAIN, row, passes[i]);
-                ours[i][round] = turn(&OURS, row, passes[i]);
-            }
-        }
-    }
-}
-
-/* A line a row: what, ours and plain in nanoseconds a call. */
-static void print_rows(void)
-{
-    for (size_t i = 0; i < ROW_COUNT; i++) {
-        double calls = (double)passes[i] * FRAMES;
-        printf("%s|%.3f|%.3f\n", ROWS[i].name, median(ours[i]) / calls,
-               median(plain[i]) / calls);
-    }
-}
-
 int main(void)
 {
     fill_frames();
@@ -232,7 +192,6 @@ int main(void)
     must_refuse_same(frames[0]);
     must_play_same();
     fill_cards();
-    measure();
-    print_rows();
+    compete(&(struct contest){ROW_COUNT, FRAMES, name, prepare, turn});
     return 0;
 }

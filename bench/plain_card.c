@@ -3,24 +3,14 @@
  * four refusals, what the frame decides, memory and locks changed, the answer
  * with its check, the record put back. The check is plain.c's, bit by bit.
  */
-#include "plain.h"
+#include "plain_card.h"
 
-#include <stdbool.h>
 #include <string.h>
 
 #include "espenknoten.h"
+#include "plain.h"
 
-enum mode { READY, QUIET, SELECTED };
-enum reply { SILENCE, ERROR, DONE, PRESENT, READ, STATUS, INFORMATION };
 enum effect { LEAVE, WRITE, LOCK };
-
-struct card {
-    uint64_t uid, mask;
-    uint32_t blocks, size;
-    uint8_t afi, dsfid, ic, slot, mask_length, held;
-    bool afi_locked, dsfid_locked, running;
-    enum mode mode;
-};
 
 /* What an event does besides changing the card. */
 struct deed {
@@ -100,10 +90,15 @@ static bool is_accepted(const struct card *card)
     return card->held <= 2 || (card->held >= 0x10 && card->held <= 0x12);
 }
 
-/* The number of the refusal, or 0. */
-static int refusal(const struct card *card, size_t memory_length,
-                   const uint8_t *locks, size_t locks_length, size_t room)
+/* Reads the card. Returns the number of the refusal, or 0. */
+static int lent(struct card *card, const uint8_t *record, size_t record_length,
+                size_t memory_length, const uint8_t *locks, size_t locks_length,
+                size_t room)
 {
+    if (record_length != EK_CARD_RECORD) {
+        return EK_REFUSED_CARD;
+    }
+    read_card(record, card);
     if (!is_accepted(card)) {
         return EK_REFUSED_CARD;
     }
@@ -127,11 +122,9 @@ static uint64_t low_bits(uint64_t number, unsigned length)
     return length < 64 ? number & (((uint64_t)1 << length) - 1) : number;
 }
 
-static struct deed present_if(bool fits)
+static enum reply present_if(bool fits)
 {
-    struct deed deed = SILENT;
-    deed.reply = fits ? PRESENT : SILENCE;
-    return deed;
+    return fits ? PRESENT : SILENCE;
 }
 
 static bool fits_slot(const struct card *card)
@@ -140,8 +133,8 @@ static bool fits_slot(const struct card *card)
            (card->uid >> card->mask_length) % 16 == card->slot;
 }
 
-static struct deed inventory(struct card *card, const uint8_t *frame,
-                             size_t length)
+static enum reply inventory(struct card *card, const uint8_t *frame,
+                            size_t length)
 {
     uint8_t flags = frame[0];
     bool one = flags & 0x20;
@@ -150,10 +143,10 @@ static struct deed inventory(struct card *card, const uint8_t *frame,
     size_t bytes = (bits + 7u) / 8;
     if (flags & 0x40 || card->mode == QUIET || frame[1] != 0x01 ||
         bits > (one ? 64 : 60) || length != at + 1 + bytes + 2) {
-        return SILENT;
+        return SILENCE;
     }
     if (flags & 0x10 && frame[2] != 0 && frame[2] != card->afi) {
-        return SILENT;
+        return SILENCE;
     }
     uint64_t mask = low_bits(number_at(frame + at + 1, bytes), bits);
     if (one) {
@@ -163,6 +156,24 @@ static struct deed inventory(struct card *card, const uint8_t *frame,
     card->slot = 0;
     card->mask_length = bits;
     card->mask = mask;
+    return present_if(fits_slot(card));
+}
+
+enum reply plain_hear_mark(struct card *card)
+{
+    if (card->held != 0) {
+        enum reply released = card->held == 1 ? DONE : ERROR;
+        card->held = 0;
+        return released;
+    }
+    if (!card->running) {
+        return SILENCE;
+    }
+    if (card->slot == 15) {
+        card->running = false;
+        return SILENCE;
+    }
+    card->slot++;
     return present_if(fits_slot(card));
 }
 
@@ -215,56 +226,71 @@ static size_t body_asked(uint8_t command, uint32_t size)
     }
 }
 
+/* A block's write or lock, with the code of a block that is locked. */
+static struct deed change(struct card *card, const uint8_t *locks, bool option,
+                          uint8_t block, enum effect effect, uint32_t place,
+                          uint8_t code)
+{
+    if (block >= card->blocks) {
+        return fail(card, option, 0x10);
+    }
+    return locks[block] ? fail(card, option, code)
+                        : succeed(card, option, effect, block, place);
+}
+
+/* The same of AFI and DSFID, which stand in the record. */
+static struct deed write_byte(struct card *card, bool option, uint8_t *byte,
+                              bool locked, uint8_t value)
+{
+    if (locked) {
+        return fail(card, option, 0x12);
+    }
+    *byte = value;
+    return succeed(card, option, LEAVE, 0, 0);
+}
+
+static struct deed lock_byte(struct card *card, bool option, bool *locked)
+{
+    if (*locked) {
+        return fail(card, option, 0x11);
+    }
+    *locked = true;
+    return succeed(card, option, LEAVE, 0, 0);
+}
+
+static struct deed turn_to(struct card *card, enum mode mode)
+{
+    card->mode = mode;
+    return succeed(card, false, LEAVE, 0, 0);
+}
+
 static struct deed perform(struct card *card, const uint8_t *locks, bool option,
                            const uint8_t *body, uint32_t at, uint8_t command)
 {
     uint8_t first = body[0], second = body[1];
     struct deed deed = SILENT;
-    bool inside = first < card->blocks;
-    deed.reply = DONE;
     switch (command) {
     case 0x20:
         return tell(card, READ, first, 0, option);
     case 0x21:
-        return !inside         ? fail(card, option, 0x10)
-               : locks[first]  ? fail(card, option, 0x12)
-                               : succeed(card, option, WRITE, first, at + 1);
+        return change(card, locks, option, first, WRITE, at + 1, 0x12);
     case 0x22:
-        return !inside         ? fail(card, option, 0x10)
-               : locks[first]  ? fail(card, option, 0x11)
-                               : succeed(card, option, LOCK, first, 0);
+        return change(card, locks, option, first, LOCK, 0, 0x11);
     case 0x23:
         return tell(card, READ, first, second, option);
     case 0x25:
-        card->mode = SELECTED;
-        return deed;
+        return turn_to(card, SELECTED);
     case 0x26:
-        card->mode = READY;
-        return deed;
+        return turn_to(card, READY);
     case 0x27:
-        if (card->afi_locked) {
-            return fail(card, option, 0x12);
-        }
-        card->afi = first;
-        return succeed(card, option, LEAVE, 0, 0);
+        return write_byte(card, option, &card->afi, card->afi_locked, first);
     case 0x28:
-        if (card->afi_locked) {
-            return fail(card, option, 0x11);
-        }
-        card->afi_locked = true;
-        return succeed(card, option, LEAVE, 0, 0);
+        return lock_byte(card, option, &card->afi_locked);
     case 0x29:
-        if (card->dsfid_locked) {
-            return fail(card, option, 0x12);
-        }
-        card->dsfid = first;
-        return succeed(card, option, LEAVE, 0, 0);
+        return write_byte(card, option, &card->dsfid, card->dsfid_locked,
+                          first);
     case 0x2A:
-        if (card->dsfid_locked) {
-            return fail(card, option, 0x11);
-        }
-        card->dsfid_locked = true;
-        return succeed(card, option, LEAVE, 0, 0);
+        return lock_byte(card, option, &card->dsfid_locked);
     case 0x2B:
         deed.reply = INFORMATION;
         return deed;
@@ -316,6 +342,20 @@ static struct deed request(struct card *card, const uint8_t *locks,
     return perform(card, locks, option, frame + at, at, command);
 }
 
+static size_t put_present(const struct card *card, uint8_t *answer)
+{
+    answer[0] = 0x00;
+    answer[1] = card->dsfid;
+    put_number(answer + 2, 8, card->uid);
+    return 10;
+}
+
+static size_t put_check(uint8_t *answer, size_t length)
+{
+    put_number(answer + length, 2, plain_check(answer, length));
+    return length + 2;
+}
+
 /* The body of the answer; returns its length. */
 static size_t put_reply(const struct card *card, const uint8_t *memory,
                         const uint8_t *locks, const struct deed *deed,
@@ -331,9 +371,7 @@ static size_t put_reply(const struct card *card, const uint8_t *memory,
         answer[n++] = deed->code;
         break;
     case PRESENT:
-        answer[1] = card->dsfid;
-        put_number(answer + 2, 8, card->uid);
-        n = 10;
+        n = put_present(card, answer);
         break;
     case READ:
         for (size_t i = deed->first; i < deed->first + deed->count; i++) {
@@ -371,11 +409,12 @@ static int64_t answered(const struct card *card, const uint8_t *memory,
                         uint8_t *answer)
 {
     size_t n = put_reply(card, memory, locks, deed, answer);
-    if (n == 0) {
-        return 0;
-    }
-    put_number(answer + n, 2, plain_check(answer, n));
-    return (int64_t)n + 2;
+    return n == 0 ? 0 : (int64_t)put_check(answer, n);
+}
+
+void plain_answer(const struct card *card, uint8_t *answer)
+{
+    put_check(answer, put_present(card, answer));
 }
 
 static bool is_sound(const uint8_t *frame, size_t length)
@@ -384,26 +423,47 @@ static bool is_sound(const uint8_t *frame, size_t length)
            plain_check(frame, length - 2) == number_at(frame + length - 2, 2);
 }
 
+/* What any frame does first. */
+static void clear(struct card *card)
+{
+    card->running = false;
+    card->held = 0;
+}
+
+/* Sound, and none of the flags that must be 0. */
+static bool is_served(const uint8_t *frame, size_t length)
+{
+    return is_sound(frame, length) && (frame[0] & 0x88) == 0;
+}
+
+enum reply plain_hear_inventory(struct card *card, const uint8_t *frame,
+                                size_t length)
+{
+    clear(card);
+    return is_served(frame, length) && frame[0] & 0x04
+               ? inventory(card, frame, length)
+               : SILENCE;
+}
+
 int64_t plain_card_frame(uint8_t *record, size_t record_length,
                          const uint8_t *frame, size_t length, uint8_t *memory,
                          size_t memory_length, uint8_t *locks,
                          size_t locks_length, uint8_t *answer, size_t room)
 {
     struct card card;
-    if (record_length != EK_CARD_RECORD) {
-        return EK_REFUSED_CARD;
-    }
-    read_card(record, &card);
-    int refused = refusal(&card, memory_length, locks, locks_length, room);
+    int refused = lent(&card, record, record_length, memory_length, locks,
+                       locks_length, room);
     if (refused != 0) {
         return refused;
     }
     struct deed deed = SILENT;
-    card.running = false;
-    card.held = 0;
-    if (is_sound(frame, length) && (frame[0] & 0x88) == 0) {
-        deed = frame[0] & 0x04 ? inventory(&card, frame, length)
-                               : request(&card, locks, frame, length);
+    clear(&card);
+    if (is_served(frame, length)) {
+        if (frame[0] & 0x04) {
+            deed.reply = inventory(&card, frame, length);
+        } else {
+            deed = request(&card, locks, frame, length);
+        }
     }
     if (deed.effect == WRITE) {
         memcpy(memory + (size_t)deed.first * card.size, frame + deed.place,
@@ -422,25 +482,14 @@ int64_t plain_card_mark(uint8_t *record, size_t record_length,
                         uint8_t *answer, size_t room)
 {
     struct card card;
-    if (record_length != EK_CARD_RECORD) {
-        return EK_REFUSED_CARD;
-    }
-    read_card(record, &card);
-    int refused = refusal(&card, memory_length, locks, locks_length, room);
+    int refused = lent(&card, record, record_length, memory_length, locks,
+                       locks_length, room);
     if (refused != 0) {
         return refused;
     }
     struct deed deed = SILENT;
-    if (card.held != 0) {
-        deed.reply = card.held == 1 ? DONE : ERROR;
-        deed.code = card.held;
-        card.held = 0;
-    } else if (card.running && card.slot == 15) {
-        card.running = false;
-    } else if (card.running) {
-        card.slot++;
-        deed = present_if(fits_slot(&card));
-    }
+    deed.code = card.held;
+    deed.reply = plain_hear_mark(&card);
     int64_t told = answered(&card, memory, locks, &deed, answer);
     put_card(&card, record);
     return told;
@@ -454,17 +503,13 @@ int64_t plain_card_power_off(uint8_t *record, size_t record_length,
     struct card card;
     (void)memory;
     (void)answer;
-    if (record_length != EK_CARD_RECORD) {
-        return EK_REFUSED_CARD;
-    }
-    read_card(record, &card);
-    int refused = refusal(&card, memory_length, locks, locks_length, room);
+    int refused = lent(&card, record, record_length, memory_length, locks,
+                       locks_length, room);
     if (refused != 0) {
         return refused;
     }
     card.mode = READY;
-    card.running = false;
-    card.held = 0;
+    clear(&card);
     put_card(&card, record);
     return 0;
 }

@@ -1,16 +1,33 @@
-/* Turns at the clock, and the median of many of them: what the benchmarks
- * share. A machine is never quite still, so no single turn is trusted. */
+/* Ours and plain C in turns at the clock: what the benchmarks share. A machine
+ * is never quite still, so no single turn is trusted: a time is the median of
+ * many rounds. */
 #ifndef TURNS_H
 #define TURNS_H
 
+#include <stddef.h>
+
 #define ROUNDS 51
+#define ROWS_MAX 16
 /* The shortest turn at the clock: a coarse clock or one interrupt must not
  * weigh much in it. */
 #define TURN_NS 1e6
 
-double now_ns(void);
+enum who { OURS, PLAIN };
 
-/* Of ROUNDS values, which it puts in order. */
-double median(double *values);
+/* What is measured: so many rows, each with a name. A row is prepared before
+ * each of its turns; a turn makes a number of passes and tells the nanoseconds.
+ * Those of a pass, divided by unit, are the row's time. */
+struct contest {
+    size_t rows;
+    double unit;
+    const char *(*name)(size_t row);
+    void (*prepare)(size_t row);
+    double (*turn)(size_t row, enum who who, unsigned passes);
+};
+
+/* Measures, and prints a line a row: what, ours and plain. */
+void compete(const struct contest *contest);
+
+double now_ns(void);
 
 #endif

@@ -31,12 +31,12 @@ struct side {
     int64_t (*ask)(const struct ek_walk *, uint8_t *, size_t);
 };
 
-static const struct side OURS = {ek_walk_start, ek_walk_hear_silence,
-                                 ek_walk_hear_clash, ek_walk_hear_bytes,
-                                 ek_walk_ask};
-static const struct side PLAIN = {plain_walk_start, plain_walk_hear_silence,
-                                  plain_walk_hear_clash, plain_walk_hear_bytes,
-                                  plain_walk_ask};
+static const struct side LIBRARY = {ek_walk_start, ek_walk_hear_silence,
+                                    ek_walk_hear_clash, ek_walk_hear_bytes,
+                                    ek_walk_ask};
+static const struct side SAME_FORM = {
+    plain_walk_start, plain_walk_hear_silence, plain_walk_hear_clash,
+    plain_walk_hear_bytes, plain_walk_ask};
 static const struct side DIRECT = {
     plain_walk_start, direct_walk_hear_silence, direct_walk_hear_clash,
     direct_walk_hear_bytes, plain_walk_ask};
@@ -132,29 +132,29 @@ static void compare_walks(const struct side *other)
         for (unsigned i = 0; i < count; i++) {
             cards[i] = random64() & spread;
         }
-        OURS.start(&ours.walk, (uint16_t)(f % 300));
+        LIBRARY.start(&ours.walk, (uint16_t)(f % 300));
         other->start(&plain.walk, (uint16_t)(f % 300));
         for (unsigned step = 0; ours.walk.ending == EK_WALK_RUNNING; step++) {
             size_t room = step % 8 == 7 ? EK_REQUEST_MAX - 1 : EK_REQUEST_MAX;
-            same(OURS.ask(&ours.walk, ours.room, room),
+            same(LIBRARY.ask(&ours.walk, ours.room, room),
                  other->ask(&plain.walk, plain.room, room), &ours, &plain);
             enum heard what =
                 field(cards, count, &ours.walk, answer, &length);
             size_t places = step % 32 == 31 ? EK_LIST_PLACES - 1
                                             : EK_LIST_PLACES;
-            same(hear(&OURS, &ours, what, answer, length, places),
+            same(hear(&LIBRARY, &ours, what, answer, length, places),
                  hear(other, &plain, what, answer, length, places), &ours,
                  &plain);
         }
         /* an ended walk, and a record with one byte turned */
-        same(OURS.ask(&ours.walk, ours.room, EK_REQUEST_MAX),
+        same(LIBRARY.ask(&ours.walk, ours.room, EK_REQUEST_MAX),
              other->ask(&plain.walk, plain.room, EK_REQUEST_MAX), &ours, &plain);
         uint8_t *byte = (uint8_t *)&ours.walk + random64() % sizeof ours.walk;
         *byte ^= (uint8_t)(1u << random64() % 8);
         plain.walk = ours.walk;
-        same(OURS.ask(&ours.walk, ours.room, EK_REQUEST_MAX),
+        same(LIBRARY.ask(&ours.walk, ours.room, EK_REQUEST_MAX),
              other->ask(&plain.walk, plain.room, EK_REQUEST_MAX), &ours, &plain);
-        same(hear(&OURS, &ours, CLASH, answer, 0, EK_LIST_PLACES),
+        same(hear(&LIBRARY, &ours, CLASH, answer, 0, EK_LIST_PLACES),
              hear(other, &plain, CLASH, answer, 0, EK_LIST_PLACES), &ours,
              &plain);
     }
@@ -174,21 +174,18 @@ struct row {
 };
 
 static const struct row ROWS[] = {
-    {"walk, silent slot", &PLAIN, ROUND, SILENCE, 7, 0},
-    {"walk, clash", &PLAIN, ROUND, CLASH, 7, 0},
-    {"walk, clean reply", &PLAIN, ROUND, BYTES, 7, 0},
-    {"walk, slot 15, next round", &PLAIN, TURN, SILENCE, 7, 15},
-    {"walk, request", &PLAIN, ASK, SILENCE, 7, 0},
-    {"walk, slot mark", &PLAIN, ASK, SILENCE, 7, 1},
+    {"walk, silent slot", &SAME_FORM, ROUND, SILENCE, 7, 0},
+    {"walk, clash", &SAME_FORM, ROUND, CLASH, 7, 0},
+    {"walk, clean reply", &SAME_FORM, ROUND, BYTES, 7, 0},
+    {"walk, slot 15, next round", &SAME_FORM, TURN, SILENCE, 7, 15},
+    {"walk, request", &SAME_FORM, ASK, SILENCE, 7, 0},
+    {"walk, slot mark", &SAME_FORM, ASK, SILENCE, 7, 1},
     {"direct, silent slot", &DIRECT, ROUND, SILENCE, 7, 0},
     {"direct, clash", &DIRECT, ROUND, CLASH, 7, 0},
     {"direct, clean reply", &DIRECT, ROUND, BYTES, 7, 0},
     {"direct, slot 15, next round", &DIRECT, TURN, SILENCE, 7, 15},
 };
 #define ROW_COUNT (sizeof ROWS / sizeof ROWS[0])
-
-static double ours[ROW_COUNT][ROUNDS], plain[ROW_COUNT][ROUNDS];
-static unsigned passes[ROW_COUNT];
 
 /* The record that the row begins with, and clean replies for its slots. */
 static struct ek_walk first;
@@ -197,8 +194,14 @@ static uint8_t replies[STEPS][ANSWER];
 /* Takes every answer, so that no call can be left out. */
 static volatile uint64_t sink;
 
-static void prepare(const struct row *row)
+static const char *name(size_t i)
 {
+    return ROWS[i].name;
+}
+
+static void prepare(size_t i)
+{
+    const struct row *row = &ROWS[i];
     ek_walk_start(&first, 0x11);
     first.level = row->level;
     first.slot = row->slot;
@@ -211,14 +214,15 @@ static void prepare(const struct row *row)
     }
 }
 
-/* Nanoseconds of count times STEPS calls. */
-static double turn(const struct side *side, const struct row *row,
-                   unsigned count)
+/* A pass is STEPS calls. */
+static double turn(size_t i, enum who who, unsigned passes)
 {
+    const struct row *row = &ROWS[i];
+    const struct side *side = who == OURS ? &LIBRARY : row->beside;
     struct state s;
     uint64_t sum = 0;
     double start = now_ns();
-    for (unsigned pass = 0; pass < count; pass++) {
+    for (unsigned pass = 0; pass < passes; pass++) {
         s.walk = first;
         for (unsigned step = 0; step < STEPS; step++) {
             switch (row->task) {
@@ -241,46 +245,10 @@ static double turn(const struct side *side, const struct row *row,
     return spent;
 }
 
-static unsigned passes_for(const struct row *row)
-{
-    unsigned count = 1;
-    while (turn(&OURS, row, count) < TURN_NS ||
-           turn(row->beside, row, count) < TURN_NS) {
-        count *= 2;
-    }
-    return count;
-}
-
-/* As in bench.c: every row in every round, and who goes first changes. */
-static void measure(void)
-{
-    for (size_t i = 0; i < ROW_COUNT; i++) {
-        prepare(&ROWS[i]);
-        passes[i] = passes_for(&ROWS[i]);
-    }
-    for (int round = 0; round < ROUNDS; round++) {
-        for (size_t i = 0; i < ROW_COUNT; i++) {
-            prepare(&ROWS[i]);
-            if (round % 2 == 0) {
-                ours[i][round] = turn(&OURS, &ROWS[i], passes[i]);
-                plain[i][round] = turn(ROWS[i].beside, &ROWS[i], passes[i]);
-            } else {
-                plain[i][round] = turn(ROWS[i].beside, &ROWS[i], passes[i]);
-                ours[i][round] = turn(&OURS, &ROWS[i], passes[i]);
-            }
-        }
-    }
-}
-
 int main(void)
 {
-    compare_walks(&PLAIN);
+    compare_walks(&SAME_FORM);
     compare_walks(&DIRECT);
-    measure();
-    for (size_t i = 0; i < ROW_COUNT; i++) {
-        double calls = (double)passes[i] * STEPS;
-        printf("%s|%.3f|%.3f\n", ROWS[i].name, median(ours[i]) / calls,
-               median(plain[i]) / calls);
-    }
+    compete(&(struct contest){ROW_COUNT, STEPS, name, prepare, turn});
     return 0;
 }

@@ -57,9 +57,13 @@ pub fn frame(record: Lent, frame: Lent, memory: Lent, locks: Lent, answer: Lent)
     }
 }
 
-pub fn mark(record: Lent, memory: Lent, locks: Lent, answer: Lent) -> i64 {
+/// A slot mark's call and a power off's have one type.
+type Event =
+    unsafe extern "C" fn(*mut u8, usize, *const u8, usize, *const u8, usize, *mut u8, usize) -> i64;
+
+fn event(call: Event, record: Lent, memory: Lent, locks: Lent, answer: Lent) -> i64 {
     unsafe {
-        ek_card_mark(
+        call(
             record.start,
             record.length,
             memory.start,
@@ -72,17 +76,10 @@ pub fn mark(record: Lent, memory: Lent, locks: Lent, answer: Lent) -> i64 {
     }
 }
 
+pub fn mark(record: Lent, memory: Lent, locks: Lent, answer: Lent) -> i64 {
+    event(ek_card_mark, record, memory, locks, answer)
+}
+
 pub fn power_off(record: Lent, memory: Lent, locks: Lent, answer: Lent) -> i64 {
-    unsafe {
-        ek_card_power_off(
-            record.start,
-            record.length,
-            memory.start,
-            memory.length,
-            locks.start,
-            locks.length,
-            answer.start,
-            answer.length,
-        )
-    }
+    event(ek_card_power_off, record, memory, locks, answer)
 }
