@@ -21,7 +21,7 @@ pub(crate) struct Told {
 }
 
 // Minus the number of a refusal; 0 stays.
-fn minus(number: u8) -> i64
+pub(crate) fn minus(number: u8) -> i64
     ensures { λ r. ⌜ r ≡ refused number ⌝ }
 {
     0 - (number as i64)

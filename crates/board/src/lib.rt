@@ -2,17 +2,16 @@
 // its record.
 // include/espenknoten.h declares them.
 mod in_place;
-mod record;
 
 ghost use mathlib.Core.Path.{_≡_};
+ghost use Prim.Native.Nat.{_≤_};
 ghost use Rattle.crc.specs.Check.{checkOf};
 ghost use Rattle.frames.specs.Frame.{Seals, isSound};
 ghost use Rattle.tracks.specs.Coder.{Codes};
 ghost use Rattle.tracks.specs.Decoder.{Decodes};
-ghost use Rattle.board.specs.Calls.{frameCall, markCall, offCall, Gives};
-use crate::record::LENGTH;
-use crate::record::card_of;
-use crate::record::settle;
+ghost use Rattle.board.specs.Calls.{frameCall, markCall, offCall, Gives, Settles};
+use crate::in_place::minus;
+use play::Served;
 
 #[no_mangle]
 pub extern "C" fn ek_check(bytes: &[u8]) -> u16
@@ -49,6 +48,20 @@ pub extern "C" fn ek_decode(track: &[u8], frame: &mut [u8]) -> i64
     tracks::decoder::decode(track, frame)
 }
 
+// The number that a call gives back. Where it is served, the next record is written.
+fn settle(served: Served, bytes: &mut [u8]) -> i64
+    requires { ⌜ served .length ≤ 9223372036854775807 ⌝ }
+    ensures { λ r. ⌜ Settles served (now (bytes .entry)) r (now (bytes .exit)) ⌝ }
+{
+    let number = served.number;
+    if number != 0 {
+        return minus(number);
+    }
+    let card = served.card;
+    record::write(card, bytes);
+    served.length as i64
+}
+
 #[no_mangle]
 pub extern "C" fn ek_card_frame(
     bytes: &mut [u8],
@@ -59,10 +72,7 @@ pub extern "C" fn ek_card_frame(
 ) -> i64
     ensures { λ r. ⌜ Gives (frameCall (now (bytes .entry)) (now (frame .entry)) (now (memory .entry)) (now (locks .entry)) (now (answer .entry))) r (now (bytes .exit)) (now (memory .exit)) (now (locks .exit)) (now (answer .exit)) ⌝ }
 {
-    if bytes.len() != LENGTH {
-        return -1;
-    }
-    let card = card_of(bytes);
+    let card = record::read(bytes);
     let served = play::events::frame(card, frame, memory, locks, answer);
     settle(served, bytes)
 }
@@ -76,10 +86,7 @@ pub extern "C" fn ek_card_mark(
 ) -> i64
     ensures { λ r. ⌜ Gives (markCall (now (bytes .entry)) (now (memory .entry)) (now (locks .entry)) (now (answer .entry))) r (now (bytes .exit)) (now (memory .entry)) (now (locks .entry)) (now (answer .exit)) ⌝ }
 {
-    if bytes.len() != LENGTH {
-        return -1;
-    }
-    let card = card_of(bytes);
+    let card = record::read(bytes);
     let served = play::events::mark(card, memory, locks, answer);
     settle(served, bytes)
 }
@@ -93,10 +100,7 @@ pub extern "C" fn ek_card_power_off(
 ) -> i64
     ensures { λ r. ⌜ Gives (offCall (now (bytes .entry)) (now (memory .entry)) (now (locks .entry)) (now (answer .entry))) r (now (bytes .exit)) (now (memory .entry)) (now (locks .entry)) (now (answer .entry)) ⌝ }
 {
-    if bytes.len() != LENGTH {
-        return -1;
-    }
-    let card = card_of(bytes);
+    let card = record::read(bytes);
     let served = play::events::power_off(card, memory, locks, answer);
     settle(served, bytes)
 }

@@ -1,0 +1,5 @@
+pub mod Fields
+pub mod Reading
+pub mod Putting
+pub mod RoundTrip
+pub mod Unique

@@ -1,0 +1,22 @@
+-- `slot_byte` meets its contract: by cases. Assumes nothing.
+use borrow.Author.Needs.{needs}
+use Rattle.record.specs.Record.{slotByte}
+use Rattle.record.proofs.bytes.slot_byte.Statement.{statement}
+use Rattle.record.proofs.bytes.slot_byte.Tie as tie
+
+enum-told : tie.Need-enum-told
+enum-told c = search needs
+
+enum-known-sequence : tie.Need-enum-known-sequence
+enum-known-sequence c = search needs
+
+returns : tie.Need-returns
+unfolding slotByte
+returns c = rw (c .enum-told .given .1)
+
+returns-2 : tie.Need-returns-2
+unfolding slotByte
+returns-2 c = rw (c .before .sequence .given .1)
+
+pub slot-byte-spec : {M : Type 1} → statement M
+slot-byte-spec = tie.close (tie.spec enum-told enum-known-sequence returns returns-2)

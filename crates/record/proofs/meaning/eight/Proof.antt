@@ -1,0 +1,45 @@
+-- `eight` meets its contract: its two fours joined (Fields.antt). Assumes nothing.
+use borrow.Author.Needs.{needs}
+use Rattle.record.proofs.Fields.{eight-of-fours}
+use Rattle.record.proofs.meaning.eight.Statement.{statement}
+use Rattle.record.proofs.meaning.eight.Tie as tie
+
+four-requires : tie.Need-four-requires
+four-requires c κs = search needs
+
+add-four : tie.Need-add-four
+add-four c = search needs
+
+four-requires-2 : tie.Need-four-requires-2
+four-requires-2 c κs = search needs
+
+cast-result : tie.Need-cast-result
+cast-result c = search needs
+
+cast-result-2 : tie.Need-cast-result-2
+cast-result-2 c = search needs
+
+mul-result : tie.Need-mul-result
+mul-result c = search needs
+
+add-result : tie.Need-add-result
+add-result c = search needs
+
+returns : tie.Need-returns
+returns c =
+    let four = c .before .four in
+    let four2 = c .four2 in
+    rw (← eight-of-fours, four .ensures, four2 .ensures)
+
+pub eight-spec : {M : Type 1} → statement M
+eight-spec =
+    tie.close
+    (tie.spec
+    four-requires
+    add-four
+    four-requires-2
+    cast-result
+    cast-result-2
+    mul-result
+    add-result
+    returns)
