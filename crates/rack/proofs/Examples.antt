@@ -10,12 +10,13 @@ use Rattle.field.specs.Played.{Play}
 use Rattle.field.specs.Played as field
 use Rattle.field.specs.Demand.{listed}
 use Rattle.field.proofs.Examples.{three, threeEnd, field-of-three}
-use Rattle.rack.specs.Row.{Played, noBytes}
+use Rattle.row.specs.Row.{Played, noBytes}
+use Rattle.row.specs.Play.{noUids, mostSlots, ended}
+use Rattle.row.proofs.SlotsAlike.{benchOf}
+use Rattle.row.proofs.Meaning.{tagsOf, tags-obey, tags-answer, freshField, bench-is-a-field}
 use Rattle.rack.specs.Input.{linesFrom, lines, digitOf, allDigits, isUid, numberFrom, uidOf, badFrom, badLine, uidsOf, uids}
 use Rattle.rack.specs.Output.{word, digit, decimal, hexDigits, uidLines, report}
-use Rattle.rack.specs.Bench.{noUids, ended, printed}
-use Rattle.rack.proofs.SlotsAlike.{benchOf}
-use Rattle.rack.proofs.Meaning.{tagsOf, tags-obey, tags-answer, freshField, bench-is-a-field}
+use Rattle.rack.specs.Bench.{printed}
 
 -- "E004010000000011, E004010000000021, E004010000000005", a line each, the last without 0A
 abbrev pub threeLines : List ℕ
@@ -67,7 +68,7 @@ report-field =
     (field-of-three .lists 256 (tagsOf three) noUids noBytes (tags-obey three three-fit) (omega arith) (omega arith) (tags-answer three))
 
 report-ended : report (ended three) ≡ threePrinted
-unfolding ended
+unfolding ended mostSlots
 report-ended = ap (λ (q : Played). report (q .desk)) (bench-is-a-field three three-fit (16 * 481)) ∙ report-field
 
 -- ---- the lines of the input

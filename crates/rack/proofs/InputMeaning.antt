@@ -9,11 +9,12 @@ use mathlib.Core.List.{List, [], _∷_}
 use borrow.Author.Tests.{eq-eqb, eqb-true, ltb-true}
 use lib.Dec.{leb, ltb, eqb}
 use lib.ListN.{length, getD}
+use Rattle.row.specs.Play.{ended}
+use Rattle.row.specs.Meaning.{Meaning, meaning}
+use Rattle.row.proofs.Meaning.{bench-meets-demand3}
 use Rattle.rack.specs.Input.{lines, digitOf, allDigits, isUid, numberFrom, uidOf, badFrom, badLine, uidsOf, uids}
 use Rattle.rack.specs.Output.{report}
-use Rattle.rack.specs.Bench.{ended, printed}
-use Rattle.rack.specs.Meaning.{Meaning, meaning}
-use Rattle.rack.proofs.Meaning.{bench-meets-demand3}
+use Rattle.rack.specs.Bench.{printed}
 
 -- a digit more is a power more
 number-fits : (k n : ℕ) (line : List ℕ) → n < 16 ^ k → allDigits line ≡ true → numberFrom n line < 16 ^ (k + length line)

@@ -15,7 +15,7 @@ use lib.Seq.{take-suc, length-take-le}
 use Rattle.lent.specs.Lent.{over, placed}
 use Rattle.lent.specs.Puts.{Puts, PutsAt}
 use Rattle.lent.proofs.Over.{placed-none, placed-placed, placed-start, set-placed, length-placed}
-use Rattle.rack.specs.declared.Desk.{Desk}
+use Rattle.row.specs.declared.Desk.{Desk}
 use Rattle.rack.specs.Output.{word, digit, decimal, hexDigits, uidLines, report, complaint}
 
 -- ---- pieces one after another

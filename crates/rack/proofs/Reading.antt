@@ -14,7 +14,7 @@ use lib.Pow.{shl-exact, pow-add}
 use lib.Seq.{take-suc-set, drop-cons, drop-nil}
 use Rattle.rack.specs.declared.input.Lines.{Lines}
 use Rattle.rack.specs.Input.{linesFrom, lines, digitOf, allDigits, isUid, numberFrom, uidOf, badFrom, badLine, uidsOf, uids}
-use Rattle.rack.specs.Lines.{noLines, freshLines, wrong, listed, pushed, longer, lineEnded, stepped, closed, readFrom, Reads}
+use Rattle.rack.specs.Lines.{noLines, freshLines, wrong, listed, pushed, longer, lineEnded, stepped, closed, readFrom}
 use Rattle.rack.proofs.LineWays.{longer-line-101, longer-17th, longer-no-digit, longer-digit, ended-line-101, ended-uid, ended-short}
 use Rattle.rack.proofs.LineWays.{stepped-end, stepped-longer, closed-wrong, closed-between, closed-line}
 
@@ -273,7 +273,12 @@ found (b ∷ bs) s line k =
     go (yes e) f g = rw (eq-eqb b 0x0a e, ← (stepped-end s b e)) f
     go (no e) f g = rw (ne-eqb b 0x0a e, ← (stepped-longer s b e)) g
 
--- the whole input
+-- the whole input: the first wrong line; where there is none, the UIDs, 100 at the most
+pub record Reads (input : List ℕ) (r : Lines) : Type 0 where
+  pub bad : r .bad ≡ badLine input
+  pub count : r .count ≤ 100
+  pub listed : r .bad ≡ 0 → take (r .count) (r .uids) ≡ uids input
+
 pub reads-input : (input : List ℕ) → Reads input (readFrom freshLines input)
 unfolding badLine uids lines freshLines
 reads-input input =

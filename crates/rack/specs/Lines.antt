@@ -1,12 +1,11 @@
 -- 01, Bench: the lines of an input as they are read, byte by byte: what is kept of them, and how a byte changes it.
-use Prim.Native.Nat.{ℕ, zero, suc, _+_, _*_, _%_, _^_, _≤_}
+use Prim.Native.Nat.{ℕ, _+_, _*_, _%_, _^_}
 use mathlib.Core.Bool.{cond, _&&_}
 use mathlib.Core.List.{List, [], _∷_}
-use mathlib.Core.Path.{_≡_}
 use lib.Dec.{ltb, eqb}
-use lib.ListN.{take, set}
+use lib.ListN.{set}
 use Rattle.rack.specs.declared.input.Lines.{Lines}
-use Rattle.rack.specs.Input.{digitOf, badLine, uids}
+use Rattle.rack.specs.Input.{digitOf}
 
 -- "0 to 100 of them": room for 100
 unfoldable pub noLines : List ℕ
@@ -51,13 +50,7 @@ stepped s b = cond (eqb b 0x0a) (lineEnded s) (longer s b)
 unfoldable pub closed : Lines → Lines
 closed s = cond (eqb (s .bad) 0) (cond (eqb (s .digits) 0) s (lineEnded s)) s
 
--- what is left of an input, up to the first wrong line
+-- what is left of an input, up to the first wrong line: `read` promises this of a whole input, from `freshLines` on
 unfoldable pub readFrom : Lines → List ℕ → Lines
 readFrom s [] = closed s
 readFrom s (b ∷ bs) = cond (eqb (s .bad) 0) (readFrom (stepped s b) bs) s
-
--- what `read` promises: the first wrong line; where there is none, the UIDs, 100 at the most
-pub record Reads (input : List ℕ) (r : Lines) : Type 0 where
-  pub bad : r .bad ≡ badLine input
-  pub count : r .count ≤ 100
-  pub listed : r .bad ≡ 0 → take (r .count) (r .uids) ≡ uids input

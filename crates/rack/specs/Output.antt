@@ -6,7 +6,7 @@ use lib.Dec.{ltb, eqb}
 use lib.ListN.{take}
 use Rattle.walk.specs.declared.Walk.{Walk}
 use Rattle.walk.specs.Record.{complete, twins, full}
-use Rattle.rack.specs.declared.Desk.{Desk}
+use Rattle.row.specs.declared.Desk.{Desk}
 
 -- "The words are complete, twins, full, overrun": ending 1, 2, 3, all else
 unfoldable pub word : ℕ → List ℕ

@@ -3,7 +3,7 @@ ghost use Rattle.rack.specs.Bench.{Prints};
 use crate::input::read;
 use crate::output::put_complaint;
 use crate::output::put_report;
-use crate::play::play;
+use row::play::play;
 
 // Room for all that can be printed.
 const MOST_PRINTED: usize = 1200;

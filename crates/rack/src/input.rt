@@ -2,15 +2,15 @@
 ghost use mathlib.Core.Path.{_≡_};
 ghost use Prim.Native.Nat.{_≤_, _<_};
 ghost use Rattle.rack.specs.Input.{digitOf};
-ghost use Rattle.rack.specs.Lines.{freshLines, wrong, listed, pushed, longer, lineEnded, stepped, closed, Reads};
+ghost use Rattle.rack.specs.Lines.{freshLines, wrong, listed, pushed, longer, lineEnded, stepped, closed, readFrom};
 
 // The UIDs of the lines so far, how many bytes the line that has begun has, the number that they stand for, and the wrong line or 0.
-pub(crate) struct Lines {
-    pub(crate) uids: [u64; 100],
-    pub(crate) count: usize,
-    pub(crate) digits: usize,
-    pub(crate) number: u64,
-    pub(crate) bad: usize,
+pub struct Lines {
+    pub uids: [u64; 100],
+    pub count: usize,
+    pub digits: usize,
+    pub number: u64,
+    pub bad: usize,
 }
 
 fn fresh() -> Lines
@@ -151,8 +151,8 @@ fn close(lines: Lines) -> Lines
 }
 
 // All lines up to the first wrong one.
-pub(crate) fn read(input: &[u8]) -> Lines
-    ensures { λ r. ⌜ Reads (now (input .entry)) r ⌝ }
+pub fn read(input: &[u8]) -> Lines
+    ensures { λ r. ⌜ r ≡ readFrom freshLines (now (input .entry)) ⌝ }
 {
     let mut lines = fresh();
     let mut i = 0;

@@ -1,28 +1,4 @@
-// The bench: a rack of cards on the desk, a walk that reads it, and what is printed of it.
+// The bench: an input of UIDs read, a walk over their cards, and what is printed of it.
 pub mod bench;
-mod input;
+pub mod input;
 mod output;
-mod play;
-mod row;
-
-use card::Card;
-use walk::Walk;
-
-// What is in the air of a slot: how many cards answer, 2 for two or more, and the first one's DSFID and UID.
-pub struct Air {
-    pub answers: u8,
-    pub dsfid: u8,
-    pub uid: u64,
-}
-
-// The walk with its list.
-pub struct Desk {
-    pub walk: Walk,
-    pub list: [u64; 64],
-}
-
-// A card after a slot, and what is then in the air.
-struct Listened {
-    card: Card,
-    air: Air,
-}

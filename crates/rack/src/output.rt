@@ -7,7 +7,7 @@ ghost use lib.ListN.{length, take};
 ghost use Rattle.lent.specs.Puts.{Puts, PutsAt};
 ghost use Rattle.walk.specs.Record.{isAccepted};
 ghost use Rattle.rack.specs.Output.{word, digit, decimal, hexDigits, uidLines, report, complaint};
-use crate::Desk;
+use row::Desk;
 
 // Puts bytes at a place of the buffer, and returns the place after them.
 fn put_bytes(bytes: &[u8], out: &mut [u8], at: usize) -> usize

@@ -69,13 +69,25 @@ use Rattle.field.specs.Demand.{demand3}
 use Rattle.field.proofs.AnyWalk.{judged-fits, walk-of-any-replies}
 use Rattle.field.proofs.Demand3.{walk-of-a-field}
 use Rattle.field.proofs.Examples.{FieldOfThree, field-of-three}
+use Rattle.row.specs.declared.Air.{Air}
+use Rattle.row.specs.declared.Desk.{Desk}
+use Rattle.row.specs.declared.Slotted.{Slotted}
+use Rattle.row.specs.Row.{cardsOf, deskAfter, HearsRow}
+use Rattle.row.specs.Play.{freshDesk, slotted, goesOn, ended}
+use Rattle.row.specs.Meaning.{Meaning, meaning}
+use Rattle.row.proofs.Meaning.{bench-meets-demand3}
+use Rattle.row.proofs.Unique as row-unique
+use Rattle.row.proofs.Unique.{fresh-unique, deal-unique, listen-row-unique, slot-unique, goes-on-unique, play-unique}
+use Rattle.rack.specs.declared.input.Lines.{Lines}
 use Rattle.rack.specs.Input.{badLine, uids}
+use Rattle.rack.specs.Lines.{freshLines, readFrom}
 use Rattle.rack.specs.Output.{report}
-use Rattle.rack.specs.Bench.{ended, printed, Prints}
-use Rattle.rack.specs.Meaning.{Meaning}
+use Rattle.rack.specs.Bench.{printed, Prints}
+use Rattle.rack.proofs.Reading as reading
+use Rattle.rack.proofs.Reading.{reads-input}
 use Rattle.rack.proofs.InputMeaning.{printed-meets-demand3}
 use Rattle.rack.proofs.Start.{printed-of-start}
-use Rattle.rack.proofs.Unique.{prints-unique}
+use Rattle.rack.proofs.Unique.{read-unique, prints-unique}
 use Rattle.rack.proofs.Examples.{Bench, bench}
 use Rattle.board.specs.Calls.{Left, Gives}
 use Rattle.board.specs.Walked.{HearsInPlace, AsksInPlace}
@@ -152,6 +164,14 @@ demand-three : demand3
 demand-three = walk-of-a-field
 
 -- ---- The bench
+
+-- Demand 3 for the bench's row: what a walk that has ended over the cards of given UIDs says of these.
+the-end-of-a-walk : meaning
+the-end-of-a-walk = bench-meets-demand3
+
+-- Reading byte by byte finds the first wrong line of an input, or, where there is none, its UIDs.
+what-is-read : (input : List ℕ) → reading.Reads input (readFrom freshLines input)
+what-is-read = reads-input
 
 -- What the bench prints for an input with no wrong line is the report of a walk's end, and demand 3 holds of that end and of the input's UIDs.
 what-is-printed : (input : List ℕ) → badLine input ≡ 0 → (printed input ≡ report (ended (uids input))) × Meaning (uids input) (ended (uids input))
@@ -281,6 +301,30 @@ hear-in-place-once = hear-in-place-unique
 
 ask-in-place-once : (a : Asking) (r s : ℤ) (room room′ : List ℕ) → AsksInPlace a r room → AsksInPlace a s room′ → (r ≡ s) × (room ≡ room′)
 ask-in-place-once = ask-in-place-unique
+
+fresh-once : (r s : Desk) → r ≡ freshDesk → s ≡ freshDesk → r ≡ s
+fresh-once = fresh-unique
+
+deal-once : (uids : List ℕ) (r s : List Card) → r ≡ cardsOf uids → s ≡ cardsOf uids → r ≡ s
+deal-once = deal-unique
+
+listen-row-once : (w : Walk) (row : List Card) (r s : Air) (left right : List Card) → HearsRow w row r left → HearsRow w row s right → (r ≡ s) × (left ≡ right)
+listen-row-once = listen-row-unique
+
+row-hear-once : (d : Desk) (air : Air) (r s : Desk) → r ≡ deskAfter d air → s ≡ deskAfter d air → r ≡ s
+row-hear-once = row-unique.hear-unique
+
+slot-once : (row : List Card) (n : ℕ) (d : Desk) (r s : Slotted) → r ≡ slotted row n d → s ≡ slotted row n d → r ≡ s
+slot-once = slot-unique
+
+goes-on-once : (d : Desk) (n : ℕ) (r s : Bool) → r ≡ goesOn d n → s ≡ goesOn d n → r ≡ s
+goes-on-once = goes-on-unique
+
+play-once : (uids : List ℕ) (n : ℕ) (r s : Desk) → r ≡ ended (take n uids) → s ≡ ended (take n uids) → r ≡ s
+play-once = play-unique
+
+read-once : (input : List ℕ) (r s : Lines) → r ≡ readFrom freshLines input → s ≡ readFrom freshLines input → r ≡ s
+read-once = read-unique
 
 bench-once : (input room : List ℕ) (r s : ℤ) (left right : List ℕ) → Prints input room r left → Prints input room s right → (r ≡ s) × (left ≡ right)
 bench-once = prints-unique

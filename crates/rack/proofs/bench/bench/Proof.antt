@@ -4,15 +4,10 @@ use native.Mathlib.Omega.{arith}
 use mathlib.Core.Path.{_∙_}
 use mir.ValLaws.{toZ-pos}
 use mir.Syntax.{w64}
-use Rattle.rack.proofs.BenchWays.{ended-accepted, bad-line-most, prints-short, prints-complaint, prints-report}
+use Rattle.rack.proofs.BenchWays.{bad-line-most, prints-short, prints-complaint, prints-report}
+use Rattle.row.proofs.Accepted.{ended-accepted}
 use Rattle.rack.proofs.bench.bench.Statement.{statement}
 use Rattle.rack.proofs.bench.bench.Tie as tie
-use Rattle.rack.proofs.bench.bench.Reads as reads
-use Rattle.rack.proofs.bench.bench.Lts as lts
-use Rattle.rack.proofs.input.read.Reads as read-reads
-use Rattle.rack.proofs.output.put_complaint.Reads as put-complaint-reads
-use Rattle.rack.proofs.output.put_report.Reads as put-report-reads
-use Rattle.rack.proofs.play.play.Reads as play-reads
 
 returns : tie.Need-returns
 returns c = prints-short _ _ (omega arith)
@@ -21,7 +16,7 @@ read-requires : tie.Need-read-requires
 read-requires c κs = search needs
 
 put-complaint-requires : tie.Need-put-complaint-requires
-put-complaint-requires c κs = (omega (arith, c .before .before .read .ensures .bad, bad-line-most (c .before .before .before .before .before .before .args .input .now)), omega arith)
+put-complaint-requires c κs = (omega (arith, bad-line-most _ _ (c .before .before .read .ensures)), omega arith)
 
 cast-result : tie.Need-cast-result
 cast-result c = omega (arith, c .before .before .put-complaint .ensures .1)

@@ -6,7 +6,7 @@ use Prim.Native.Nat.{_-_, _≤_}
 use native.Mathlib.Omega.{arith}
 use lib.ListN.{length, drop}
 use Rattle.rack.specs.Lines.{freshLines, readFrom}
-use Rattle.rack.proofs.Reading.{reads-input, step-left, end-left, stopped-left, count-fresh, count-stepped}
+use Rattle.rack.proofs.Reading.{step-left, end-left, stopped-left, count-fresh, count-stepped}
 use Rattle.rack.proofs.input.read.Statement.{statement}
 use Rattle.rack.proofs.input.read.Tie as tie
 
@@ -55,7 +55,7 @@ returns c =
     let i = c .before .before .loop .i in
     let whole = c .before .before .loop .inv .2 in
     let way = ⊎-elim (λ t. end-left s (args .input .now) i (omega (arith, t .left))) (λ t. stopped-left s (args .input .now) i (t .2 .taken)) (c .before .loop-test .came) in
-    rw (c .close .ensures, way, whole) (reads-input (args .input .now))
+    c .close .ensures ∙ way ∙ whole
 
 pub read-spec : {M : Type 1} → statement M
 read-spec =

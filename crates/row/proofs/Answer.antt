@@ -1,0 +1,33 @@
+-- The answer in the air, byte for byte as it is written, and what the walk makes of it. By computation.
+-- Assumes nothing.
+use Prim.Native.Nat.{ℕ}
+use mathlib.Core.List.{List, [], _∷_}
+use mathlib.Core.Path.{_≡_, _∙_, ap}
+use lib.IntN.{ℤ}
+use Rattle.lent.specs.Lent.{over, placed}
+use Rattle.crc.specs.Check.{checkBytes, sealed}
+use Rattle.frames.specs.Field.{fieldBytes, putLeaves, PutsField}
+use Rattle.frames.specs.Frame.{sealLeaves, Seals}
+use Rattle.walk.specs.declared.Kind.{Kind}
+use Rattle.walk.specs.declared.Heard.{Heard}
+use Rattle.walk.specs.Hear.{Hearing, hearing, Hears}
+use Rattle.row.specs.declared.Air.{Air}
+use Rattle.row.specs.declared.Desk.{Desk}
+use Rattle.row.specs.Row.{airKind, airBytes, deskAfter}
+
+-- room for an answer, with the DSFID
+abbrev pub begun : ℕ → List ℕ
+begun dsfid = 0 ∷ dsfid ∷ 0 ∷ 0 ∷ 0 ∷ 0 ∷ 0 ∷ 0 ∷ 0 ∷ 0 ∷ 0 ∷ 0 ∷ []
+
+pub answer-sealed : (air : Air) {first second : List ℕ} {r q : ℤ} → PutsField (begun (air .dsfid)) 2 8 (air .uid) r first → Seals first 10 q second → second ≡ airBytes air
+unfolding airBytes putLeaves placed fieldBytes sealLeaves over sealed checkBytes
+answer-sealed air h k = k .leaves ∙ ap (λ (bs : List ℕ). sealLeaves bs 10) (h .leaves)
+
+pub desk-heard : (d : Desk) (air : Air) {kind : Kind} {bytes list : List ℕ} {r : Heard} → kind ≡ airKind air → bytes ≡ airBytes air
+    → Hears (hearing (d .walk) kind bytes (d .list)) r list → record { walk = r .walk; list = list } ≡ deskAfter d air
+unfolding deskAfter
+desk-heard d air k b h =
+    λ i. record {
+      walk = (h .walk ∙ ap (λ (x : Hearing). x .walk) (λ j. hearing (d .walk) (k j) (b j) (d .list))) i;
+      list = (h .list-left ∙ ap (λ (x : Hearing). x .list) (λ j. hearing (d .walk) (k j) (b j) (d .list))) i;
+    }

@@ -1,0 +1,15 @@
+mod Sent
+mod Answer
+mod RowPart
+mod Dealt
+mod SlotMade
+mod Played
+mod LocalRow
+pub mod Accepted
+mod Values
+mod RowField
+pub mod CardTurned
+pub mod RowTurned
+pub mod SlotsAlike
+pub mod Meaning
+pub mod Unique

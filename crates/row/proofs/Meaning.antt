@@ -1,0 +1,110 @@
+-- Demand 3 for the bench: what it prints is what demand 3 says of the UIDs given. Each card of the bench is a card of a field, with a memory of
+-- one byte; the bench's play is that field's, after every slot. Assumes nothing.
+use mathlib.Core.Path.{_≡_, refl, sym, ap, subst, _∙_}
+use Prim.Native.Nat.{ℕ, suc, _*_, _^_, _<_}
+use native.Mathlib.Omega.{arith}
+use mathlib.Core.List.{List, [], _∷_}
+use lib.ListN.{getD}
+use Rattle.card.specs.declared.Card.{Card}
+use Rattle.card.specs.Record.{shapeFits, sequenceFits, heldFits, isAccepted}
+use Rattle.field.specs.Field.{Tag, Obeys, listens, familyFits, answers, answering}
+use Rattle.field.specs.Played.{Play, fresh}
+use Rattle.field.specs.Played as field
+use Rattle.field.specs.Demand.{listed, AllObey, none, more, cards, Demand3, demand3}
+use Rattle.field.proofs.InStep.{byte-served}
+use Rattle.field.proofs.Stages.{stage-fresh}
+use Rattle.field.proofs.Demand3.{uids-fit, walk-of-a-field}
+use Rattle.row.specs.declared.Desk.{Desk}
+use Rattle.row.specs.Row.{Played, cardOf, cardsOf, noBytes, playedFor}
+use Rattle.row.specs.Play.{noUids, freshDesk, mostSlots, ended}
+use Rattle.row.specs.Meaning.{cardLines, Meaning, meaning}
+use Rattle.row.proofs.SlotsAlike.{benchOf, played-alike}
+
+-- ---- the bench's cards as a field
+
+-- one block of one byte, unlocked, and room for 32 bytes
+unfoldable pub tagOf : ℕ → Tag
+tagOf uid =
+    record {
+      card = cardOf uid;
+      memory = 0 ∷ [];
+      locks = 0 ∷ [];
+      room =
+          0 ∷ 0 ∷ 0 ∷ 0 ∷ 0 ∷ 0 ∷ 0 ∷ 0 ∷ 0 ∷ 0 ∷ 0 ∷ 0 ∷ 0 ∷ 0 ∷ 0 ∷ 0
+          ∷ 0 ∷ 0 ∷ 0 ∷ 0 ∷ 0 ∷ 0 ∷ 0 ∷ 0 ∷ 0 ∷ 0 ∷ 0 ∷ 0 ∷ 0 ∷ 0 ∷ 0 ∷ 0
+          ∷ [];
+    }
+
+unfoldable pub tagsOf : List ℕ → List Tag
+tagsOf [] = []
+tagsOf (u ∷ us) = tagOf u ∷ tagsOf us
+
+tag-obeys : (uid : ℕ) → uid < 2 ^ 64 → Obeys (tagOf uid)
+unfolding tagOf cardOf isAccepted shapeFits sequenceFits heldFits
+tag-obeys uid h = record { accepted = byte-served (cardOf uid) 32 refl refl refl (omega arith); uid-fits = h }
+
+pub tags-obey : (us : List ℕ) → ((i : ℕ) → getD us i 0 < 2 ^ 64) → AllObey (tagsOf us)
+unfolding tagsOf
+tags-obey [] h = none
+tags-obey (u ∷ us) h = more (tag-obeys u (h 0)) (tags-obey us (λ i. h (suc i)))
+
+-- "cards Ready, no family": every card answers
+pub tags-answer : (us : List ℕ) → answering 256 (tagsOf us) ≡ us
+unfolding tagsOf tagOf cardOf answering answers listens familyFits
+tags-answer [] = refl
+tags-answer (u ∷ us) = ap (λ (vs : List ℕ). u ∷ vs) (tags-answer us)
+
+tags-cards : (us : List ℕ) → cards (tagsOf us) ≡ cardsOf us
+unfolding tagsOf tagOf cards cardsOf
+tags-cards [] = refl
+tags-cards (u ∷ us) = ap (λ (cs : List Card). cardOf u ∷ cs) (tags-cards us)
+
+-- ---- the bench's play is that field's
+
+unfoldable pub freshField : List ℕ → Play
+freshField us = fresh 256 noUids noBytes (tagsOf us)
+
+bench-fresh : (us : List ℕ) → record { desk = freshDesk; row = cardsOf us } ≡ benchOf (freshField us)
+unfolding freshField fresh freshDesk benchOf
+bench-fresh us = ap (λ (cs : List Card). record { desk = freshDesk; row = cs }) (sym (tags-cards us))
+
+pub bench-is-a-field : (us : List ℕ) → ((i : ℕ) → getD us i 0 < 2 ^ 64) → (n : ℕ)
+    → playedFor n (record { desk = freshDesk; row = cardsOf us }) ≡ benchOf (field.playedFor n (freshField us))
+unfolding freshField noUids noBytes
+bench-is-a-field us h n =
+    let tags : List Tag = tagsOf us in
+    let obey : AllObey tags = tags-obey us h in
+    ap (playedFor n) (bench-fresh us)
+    ∙ played-alike 256 tags n 0 (freshField us) obey (uids-fit 256 tags obey)
+    (stage-fresh 256 tags (answering 256 tags) noUids noBytes obey (omega arith) (omega arith))
+
+-- ---- what demand 3 says of it
+
+of-demand : (us : List ℕ) (tags : List Tag) (p : Play) → Demand3 256 tags us p → Meaning us (benchOf p .desk)
+unfolding benchOf cardLines listed
+of-demand us tags p d =
+    record {
+      ends = d .ends;
+      few = d .few;
+      different = d .different;
+      completes = d .completes;
+      each-once = d .each-once;
+      rounds = d .rounds;
+      rounds-most = d .rounds-most;
+      alike = d .alike;
+      many = d .many;
+      no-overrun = d .no-overrun;
+    }
+
+field-demand : (us : List ℕ) → ((i : ℕ) → getD us i 0 < 2 ^ 64) → Demand3 256 (tagsOf us) us (field.playedFor (16 * 481) (freshField us))
+unfolding freshField noUids noBytes demand3
+field-demand us h =
+    subst (λ (vs : List ℕ). Demand3 256 (tagsOf us) vs (field.playedFor (16 * 481) (freshField us))) (tags-answer us)
+    (walk-of-a-field 256 (tagsOf us) noUids noBytes (tags-obey us h) (omega arith) (omega arith))
+
+pub bench-meets-demand3 : meaning
+unfolding meaning ended mostSlots
+bench-meets-demand3 us h =
+    let p : Play = field.playedFor (16 * 481) (freshField us) in
+    subst (λ (d : Desk). Meaning us d) (sym (ap (λ (q : Played). q .desk) (bench-is-a-field us h (16 * 481))))
+    (of-demand us (tagsOf us) p (field-demand us h))

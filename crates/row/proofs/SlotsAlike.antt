@@ -1,0 +1,102 @@
+-- A slot of the bench is a slot of a field: the same walk, the same list and the same cards, whether the walk hears or has ended.
+-- By the slot that the UIDs bring to both. Assumes nothing.
+use mathlib.Core.Path.{_≡_, refl, sym, ap, ap₂, subst⁻¹, _∙_}
+use mathlib.Core.Bool.{true, false}
+use Prim.Native.Nat.{ℕ, zero, suc, _^_, _≤_, _<_}
+use mathlib.Core.List.{List, [], _∷_}
+use lib.ListN.{length, getD}
+use Rattle.card.specs.declared.Card.{Card}
+use Rattle.card.specs.declared.Turn.{Turn}
+use Rattle.card.specs.Inventory.{still}
+use Rattle.walk.specs.declared.Walk.{Walk}
+use Rattle.walk.specs.declared.Slot.{Slot}
+use Rattle.walk.specs.Record.{isAccepted, isRunning}
+use Rattle.walk.specs.Hear.{judged, walkAfter, listAfter}
+use Rattle.walk.specs.Ask.{Asking}
+use Rattle.field.specs.Field.{Tag, answering}
+use Rattle.field.specs.Played.{Play}
+use Rattle.field.specs.Played as field
+use Rattle.field.specs.Demand.{AllObey, cards}
+use Rattle.field.proofs.Called.{called, slotOf}
+use Rattle.field.proofs.InTime.{Both, Before}
+use Rattle.field.proofs.WalkServed.{walk-heard, ended-heard, ended-asked}
+use Rattle.field.proofs.PlayedSlot.{SlotPlayed, slot-played, ended-played}
+use Rattle.field.proofs.Accepted.{walks-accepted}
+use Rattle.field.proofs.Stages.{Stage, hears, rests, running-of, stage-slot}
+use Rattle.field.proofs.Demand3.{cards-of}
+use Rattle.row.specs.declared.Air.{Air}
+use Rattle.row.specs.declared.Desk.{Desk}
+use Rattle.row.specs.Row.{Played, noBytes, turnBy, turnOf, stillAir, airKind, airBytes, rowAir, rowAfter, deskAfter, slotPlayed, playedFor}
+use Rattle.row.proofs.RowTurned.{Turned, row-turned, row-left, row-judged}
+
+abbrev deskOf : Walk → List ℕ → Desk
+deskOf w list = record { walk = w; list = list }
+
+abbrev playedOf : Desk → List Card → Played
+playedOf desk row = record { desk = desk; row = row }
+
+-- what the bench keeps of a field's play
+unfoldable pub benchOf : Play → Played
+benchOf p = playedOf (deskOf (p .walk) (p .list)) (cards (p .tags))
+
+-- ---- a walk that hears
+
+desk-heard : (w : Walk) (list : List ℕ) (air : Air) (slot : Slot) → isAccepted w ≡ true → isRunning w ≡ true → 64 ≤ length list
+    → judged w (airKind air) (airBytes air) ≡ slot → deskAfter (deskOf w list) air ≡ deskOf (walkAfter w slot) (listAfter w slot list)
+unfolding deskAfter
+desk-heard w list air slot accepted running places heard = rw (walk-heard w (airKind air) (airBytes air) list accepted running places, heard)
+
+hears-alike : (tags : List Tag) (p : Play) → AllObey tags → isAccepted (p .walk) ≡ true → isRunning (p .walk) ≡ true → 64 ≤ length (p .list)
+    → 14 ≤ length (p .room) → Before (p .walk .family) (p .walk .level) (p .walk .mask) (p .walk .slot) tags (p .tags)
+    → slotPlayed (benchOf p) ≡ benchOf (field.slotPlayed p)
+unfolding slotPlayed benchOf
+hears-alike tags p obey accepted running places room before =
+    let w : Walk = p .walk in
+    let q : Play = field.slotPlayed p in
+    let slot : Slot = slotOf (called (answering (w .family) tags) w) in
+    let played : SlotPlayed (w .family) tags p q = slot-played (w .family) tags p obey accepted running refl places room before in
+    let turned : Both (Turned w) tags (p .tags) = row-turned w tags (p .tags) obey accepted running before in
+    ap₂ playedOf
+    (desk-heard w (p .list) (rowAir w stillAir (cards (p .tags))) slot accepted running places (row-judged w tags (p .tags) obey accepted turned)
+    ∙ ap₂ deskOf (sym (played .walk)) (sym (played .list)))
+    (row-left w tags (p .tags) turned ∙ sym (cards-of (w .family) w tags (q .tags) (played .tags)))
+
+-- ---- an ended walk
+
+ended-turned : (w : Walk) (c : Card) → isAccepted w ≡ true → isRunning w ≡ false → turnOf w c ≡ still c
+unfolding turnOf turnBy
+ended-turned w c accepted ended = ap (λ (a : Asking). turnBy (a .send) (a .room) c) (ended-asked w noBytes accepted ended)
+
+ended-row : (w : Walk) (cs : List Card) → isAccepted w ≡ true → isRunning w ≡ false → rowAfter w cs ≡ cs
+unfolding rowAfter
+ended-row w [] accepted ended = refl
+ended-row w (c ∷ cs) accepted ended =
+    ap₂ (λ (d : Card) (ds : List Card). d ∷ ds) (ap (λ (u : Turn). u .card) (ended-turned w c accepted ended)) (ended-row w cs accepted ended)
+
+ended-desk : (w : Walk) (list : List ℕ) (air : Air) → isAccepted w ≡ true → isRunning w ≡ false → deskAfter (deskOf w list) air ≡ deskOf w list
+unfolding deskAfter
+ended-desk w list air accepted ended = rw (ended-heard w (airKind air) (airBytes air) list accepted ended)
+
+rests-alike : (p : Play) → isAccepted (p .walk) ≡ true → isRunning (p .walk) ≡ false → slotPlayed (benchOf p) ≡ benchOf p
+unfolding slotPlayed benchOf
+rests-alike p accepted ended =
+    ap₂ playedOf (ended-desk (p .walk) (p .list) (rowAir (p .walk) stillAir (cards (p .tags))) accepted ended)
+    (ended-row (p .walk) (cards (p .tags)) accepted ended)
+
+-- ---- slot after slot
+
+slots-alike : (family : ℕ) (tags : List Tag) (us : List ℕ) (n : ℕ) (p : Play) → AllObey tags → Stage family tags us n p
+    → slotPlayed (benchOf p) ≡ benchOf (field.slotPlayed p)
+slots-alike family tags us n p obey (hears g h e f room count row) =
+    let w : Walk = p .walk in
+    hears-alike tags p obey (walks-accepted w (p .list) (w .slot) h (g .walks)) (running-of w e) (g .walks .places-fit) room
+    (subst⁻¹ (λ (x : ℕ). Before x (w .level) (w .mask) (w .slot) tags (p .tags)) f row)
+slots-alike family tags us n p obey (rests a r v row) = rests-alike p a r ∙ sym (ap benchOf (ended-played p a r))
+
+pub played-alike : (family : ℕ) (tags : List Tag) (n m : ℕ) (p : Play) → AllObey tags → ((i : ℕ) → getD (answering family tags) i 0 < 16 ^ 16)
+    → Stage family tags (answering family tags) m p → playedFor n (benchOf p) ≡ benchOf (field.playedFor n p)
+unfolding playedFor field.playedFor
+played-alike family tags zero m p obey fit s = refl
+played-alike family tags (suc n) m p obey fit s =
+    ap (playedFor n) (slots-alike family tags (answering family tags) m p obey s)
+    ∙ played-alike family tags n (suc m) (field.slotPlayed p) obey fit (stage-slot family tags m p obey fit s)

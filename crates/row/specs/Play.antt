@@ -1,0 +1,58 @@
+-- 01, Bench: a fresh walk over the row, slot after slot. "cards Ready, no family"
+use Prim.Native.Nat.{ℕ, _*_}
+use mathlib.Core.Bool.{Bool, cond, _&&_}
+use mathlib.Core.List.{List, [], _∷_, _++_}
+use lib.Dec.{leb, ltb}
+use lib.ListN.{take, drop}
+use Rattle.card.specs.declared.Card.{Card}
+use Rattle.walk.specs.declared.Walk.{Walk}
+use Rattle.walk.specs.Record.{started, isRunning}
+use Rattle.row.specs.declared.Air.{Air}
+use Rattle.row.specs.declared.Desk.{Desk}
+use Rattle.row.specs.declared.Slotted.{Slotted}
+use Rattle.row.specs.Row.{stillAir, rowAir, rowAfter, deskAfter, Played, cardsOf, playedFor}
+
+-- a list of 64 places, all 0
+unfoldable pub noUids : List ℕ
+noUids =
+    0 ∷ 0 ∷ 0 ∷ 0 ∷ 0 ∷ 0 ∷ 0 ∷ 0 ∷ 0 ∷ 0 ∷ 0 ∷ 0 ∷ 0 ∷ 0 ∷ 0 ∷ 0
+    ∷ 0 ∷ 0 ∷ 0 ∷ 0 ∷ 0 ∷ 0 ∷ 0 ∷ 0 ∷ 0 ∷ 0 ∷ 0 ∷ 0 ∷ 0 ∷ 0 ∷ 0 ∷ 0
+    ∷ 0 ∷ 0 ∷ 0 ∷ 0 ∷ 0 ∷ 0 ∷ 0 ∷ 0 ∷ 0 ∷ 0 ∷ 0 ∷ 0 ∷ 0 ∷ 0 ∷ 0 ∷ 0
+    ∷ 0 ∷ 0 ∷ 0 ∷ 0 ∷ 0 ∷ 0 ∷ 0 ∷ 0 ∷ 0 ∷ 0 ∷ 0 ∷ 0 ∷ 0 ∷ 0 ∷ 0 ∷ 0
+    ∷ []
+
+-- a fresh walk of no family: 256 is none
+unfoldable pub freshDesk : Desk
+freshDesk = record { walk = started 256; list = noUids }
+
+-- ---- one slot over the first n cards of a row
+
+-- "0 to 100 of them": n over 100 counts as 100
+unfoldable pub cardsIn : ℕ → ℕ
+cardsIn n = cond (leb n 100) n 100
+
+unfoldable pub slotAir : Walk → ℕ → List Card → Air
+slotAir w n row = rowAir w stillAir (take n row)
+
+-- the rest of the row stays
+unfoldable pub slotRow : Walk → ℕ → List Card → List Card
+slotRow w n row = rowAfter w (take n row) ++ drop n row
+
+-- what `slot` promises
+unfoldable pub slotted : List Card → ℕ → Desk → Slotted
+slotted row n d =
+    let air : Air = slotAir (d .walk) n row in
+    record { row = slotRow (d .walk) n row; desk = deskAfter d air; air = air }
+
+-- ---- all slots
+
+-- a walk has ended after 16 × 481 slots (demand 3)
+unfoldable pub mostSlots : ℕ
+mostSlots = 16 * 481
+
+-- whether a slot is still to be heard after n
+unfoldable pub goesOn : Desk → ℕ → Bool
+goesOn d n = ltb n mostSlots && isRunning (d .walk)
+
+unfoldable pub ended : List ℕ → Desk
+ended us = playedFor mostSlots (record { desk = freshDesk; row = cardsOf us }) .desk

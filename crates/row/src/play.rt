@@ -1,0 +1,111 @@
+// The walk with its list, slot after slot over the row.
+ghost use mathlib.Core.Path.{_≡_};
+ghost use lib.ListN.{take};
+ghost use Rattle.row.specs.Row.{airKind, deskAfter, cardsOf};
+ghost use Rattle.row.specs.Play.{freshDesk, cardsIn, slotted, goesOn, ended};
+use crate::Air;
+use crate::Desk;
+use crate::Slotted;
+use crate::row::card_of;
+use crate::row::listen_row;
+use card::Card;
+use walk::Kind;
+use walk::Walk;
+
+// A fresh walk of no family, with an empty list.
+pub fn fresh() -> Desk
+    ensures { λ r. ⌜ r ≡ freshDesk ⌝ }
+{
+    Desk {
+        walk: Walk::start(256),
+        list: [0; 64],
+    }
+}
+
+// The cards of the UIDs, one at each place.
+pub fn deal(uids: [u64; 100]) -> [Card; 100]
+    ensures { λ r. ⌜ r ≡ cardsOf uids ⌝ }
+{
+    let mut row = [card_of(0); 100];
+    let mut i = 0;
+    while i < 100 {
+        row[i] = card_of(uids[i]);
+        i += 1;
+    }
+    row
+}
+
+fn kind_of(air: Air) -> Kind
+    ensures { λ r. ⌜ r ≡ airKind air ⌝ }
+{
+    if air.answers == 0 {
+        return Kind::Silence;
+    }
+    if air.answers == 1 {
+        return Kind::Bytes;
+    }
+    Kind::Clash
+}
+
+// The answer in the air reaches the walk.
+pub fn hear(desk: Desk, air: Air) -> Desk
+    ensures { λ r. ⌜ r ≡ deskAfter desk air ⌝ }
+{
+    let mut bytes = [0u8; 12];
+    bytes[1] = air.dsfid;
+    frames::put_field(&mut bytes, 2, 8, air.uid);
+    frames::seal(&mut bytes, 10);
+    let walk = desk.walk;
+    let mut list = desk.list;
+    let heard = walk.hear(kind_of(air), &bytes, &mut list);
+    let next = heard.walk;
+    Desk {
+        walk: next,
+        list: list,
+    }
+}
+
+// Of a row of 100 no more than 100 cards hear.
+fn cards_in(n: usize) -> usize
+    ensures { λ r. ⌜ r ≡ cardsIn n ⌝ }
+{
+    if n <= 100 { n } else { 100 }
+}
+
+// One slot over the first n cards of the row.
+pub fn slot(mut row: [Card; 100], n: usize, desk: Desk) -> Slotted
+    ensures { λ r. ⌜ r ≡ slotted row n desk ⌝ }
+{
+    let m = cards_in(n);
+    let air = listen_row(&mut row[..m], desk.walk);
+    let next = hear(desk, air);
+    Slotted {
+        row: row,
+        desk: next,
+        air: air,
+    }
+}
+
+// Whether a slot is still to be heard after n, of 16 for each of 481 rounds.
+pub fn goes_on(desk: Desk, n: u32) -> bool
+    ensures { λ r. ⌜ r ≡ goesOn desk n ⌝ }
+{
+    let walk = desk.walk;
+    if n < 7696 { walk.ending == 0 } else { false }
+}
+
+// A fresh walk over the cards of the first n UIDs, to its end.
+pub fn play(uids: [u64; 100], n: usize) -> Desk
+    ensures { λ r. ⌜ r ≡ ended (take n uids) ⌝ }
+{
+    let mut row = deal(uids);
+    let mut desk = fresh();
+    let mut count = 0;
+    while goes_on(desk, count) {
+        let next = slot(row, n, desk);
+        row = next.row;
+        desk = next.desk;
+        count += 1;
+    }
+    desk
+}

@@ -1,0 +1,119 @@
+// The row of cards: each slot, what the walk sends reaches every card, and what they answer is in the air.
+ghost use mathlib.Core.Path.{_≡_};
+ghost use Rattle.row.specs.Row.{cardOf, turnOf, crowded, airWith, Listens, HearsRow};
+use crate::Air;
+use crate::Listened;
+use card::Card;
+use card::Held;
+use card::Mode;
+use card::Reply;
+use card::Sequence;
+use card::Turn;
+use walk::Send;
+use walk::Walk;
+
+// A card of the bench.
+pub(crate) fn card_of(uid: u64) -> Card
+    ensures { λ r. ⌜ r ≡ cardOf uid ⌝ }
+{
+    Card {
+        blocks: 1,
+        size: 1,
+        uid: uid,
+        afi: 0,
+        dsfid: 0,
+        afi_locked: false,
+        dsfid_locked: false,
+        ic_reference: 0,
+        mode: Mode::Ready,
+        sequence: Sequence::Idle,
+        held: Held::Free,
+    }
+}
+
+// What the walk sends reaches a card.
+fn turn(card: Card, walk: Walk) -> Turn
+    ensures { λ r. ⌜ r ≡ turnOf walk card ⌝ }
+{
+    let mut room = [0u8; 14];
+    let asked = walk.ask(&mut room);
+    let send = asked.send;
+    match send {
+        Send::Nothing => Turn {
+            card: card,
+            reply: Reply::Silence,
+        },
+        Send::Mark => card.hear_mark(),
+        Send::Request(n) => card.hear_inventory(&room[..n]),
+    }
+}
+
+// An answer that is no inventory answer is heard as a clash.
+fn clash(air: Air) -> Air
+    ensures { λ r. ⌜ r ≡ crowded air ⌝ }
+{
+    Air {
+        answers: 2,
+        dsfid: air.dsfid,
+        uid: air.uid,
+    }
+}
+
+fn present(air: Air, card: Card) -> Air
+    ensures { λ r. ⌜ r ≡ airWith air card Reply.Present ⌝ }
+{
+    if air.answers == 0 {
+        Air {
+            answers: 1,
+            dsfid: card.dsfid,
+            uid: card.uid,
+        }
+    } else {
+        clash(air)
+    }
+}
+
+fn air_with(air: Air, card: Card, reply: Reply) -> Air
+    ensures { λ r. ⌜ r ≡ airWith air card reply ⌝ }
+{
+    match reply {
+        Reply::Silence => air,
+        Reply::Error(_) => clash(air),
+        Reply::Done => clash(air),
+        Reply::Present => present(air, card),
+        Reply::Blocks(_, _, _) => clash(air),
+        Reply::Status(_, _) => clash(air),
+        Reply::Information => clash(air),
+    }
+}
+
+fn listen(card: Card, walk: Walk, air: Air) -> Listened
+    ensures { λ r. ⌜ Listens walk card air r ⌝ }
+{
+    let turn = turn(card, walk);
+    let next = turn.card;
+    let reply = turn.reply;
+    Listened {
+        card: next,
+        air: air_with(air, next, reply),
+    }
+}
+
+// A slot over the whole row.
+pub fn listen_row(row: &mut [Card], walk: Walk) -> Air
+    ensures { λ r. ⌜ HearsRow walk (now (row .entry)) r (now (row .exit)) ⌝ }
+{
+    let mut air = Air {
+        answers: 0,
+        dsfid: 0,
+        uid: 0,
+    };
+    let mut i = 0;
+    while i < row.len() {
+        let heard = listen(row[i], walk, air);
+        row[i] = heard.card;
+        air = heard.air;
+        i += 1;
+    }
+    air
+}
