@@ -45,7 +45,7 @@ use Rattle.requests.proofs.Unique.{decide-unique}
 use Rattle.requests.proofs.Examples.{BlockReads, block-reads}
 use Rattle.card.proofs.Examples.{Cards, cards}
 use Rattle.record.specs.Record.{cardRead, Writes}
-use Rattle.record.proofs.Unique.{read-unique, write-unique}
+use Rattle.record.proofs.Unique as record-unique
 use Rattle.play.specs.declared.Served.{Served}
 use Rattle.play.specs.Events.{Outcome, Leaves}
 use Rattle.play.proofs.Deeds.{DeedFits}
@@ -262,11 +262,11 @@ hear-mark-once = hear-mark-unique
 hear-inventory-once : (c : Card) (frame : List ℕ) (r s : Turn) → r ≡ heardInventory c frame → s ≡ heardInventory c frame → r ≡ s
 hear-inventory-once = hear-inventory-unique
 
-read-once : (bytes : List ℕ) (r s : Card) → r ≡ cardRead bytes → s ≡ cardRead bytes → r ≡ s
-read-once = read-unique
+record-read-once : (bytes : List ℕ) (r s : Card) → r ≡ cardRead bytes → s ≡ cardRead bytes → r ≡ s
+record-read-once = record-unique.read-unique
 
-write-once : (c : Card) (found : List ℕ) (r s : ℕ) (left right : List ℕ) → Writes c found r left → Writes c found s right → (r ≡ s) × (left ≡ right)
-write-once = write-unique
+record-write-once : (c : Card) (found : List ℕ) (r s : ℕ) (left right : List ℕ) → Writes c found r left → Writes c found s right → (r ≡ s) × (left ≡ right)
+record-write-once = record-unique.write-unique
 
 decide-once : (c : Card) (locks frame : List ℕ) (r s : Deed) → r ≡ decided c locks frame → s ≡ decided c locks frame → r ≡ s
 decide-once = decide-unique
