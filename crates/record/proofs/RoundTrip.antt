@@ -5,12 +5,12 @@ use mathlib.Core.Bool.{Bool, true, false}
 use mathlib.Core.List.{List, _++_}
 use Prim.Native.Nat.{ℕ, _+_, _^_, _≤_, _<_}
 use native.Mathlib.Omega.{arith}
-use borrow.Author.Tests.{ne-eqb}
+use borrow.Author.Tests.{eq-eqb, ne-eqb}
 use lib.ListN.{length, take, drop}
 use lib.Seq.{length-take-le, take-at, drop-at}
 use mathlib.Core.List.{append-assoc}
 use Rattle.lent.specs.Lent.{over, placed}
-use Rattle.lent.proofs.Over.{length-over}
+use Rattle.lent.proofs.Over.{length-over, length-placed}
 use Rattle.frames.specs.Field.{fieldOf, fieldBytes, fieldAt}
 use Rattle.frames.proofs.Fields.{field-of-bytes, length-field-bytes}
 use Rattle.card.specs.declared.Card.{Card}
@@ -20,7 +20,7 @@ use Rattle.card.specs.declared.Sequence.{Sequence}
 use Rattle.card.specs.declared.Sequence.the-variants.{Idle, Running}
 use Rattle.card.specs.declared.Held.{Held}
 use Rattle.card.specs.declared.Held.the-variants.{Free, Success, Code}
-use Rattle.record.specs.Record.{flagOf, modeOf, sequenceOf, heldOf, cardOf, flagByte, modeByte, fieldsOf, heldByte, stateBytes, frontBytes, recordOf}
+use Rattle.record.specs.Record.{flagOf, modeOf, sequenceOf, heldOf, cardOf, flagByte, modeByte, fieldsOf, heldByte, stateBytes, frontBytes, recordOf, recordLength, cardRead, writeLeaves}
 use Rattle.record.proofs.Putting.{length-front}
 
 -- the numbers fit their fields; the bytes 0 and 1 hold no code
@@ -107,3 +107,16 @@ module _ (c : Card) (found : List ℕ) (is : length found ≡ 40) where
         sequence = q i;
         held = held-back (c .held) (fits .code) i;
       }
+
+  length-record : length (recordOf c found) ≡ 40
+  unfolding recordOf
+  length-record =
+      let m : List ℕ = fieldBytes 8 (fieldsOf (c .sequence) .mask) in
+      let n : length m ≡ 8 = length-field-bytes 8 (fieldsOf (c .sequence) .mask) in
+      let all : length (over (frontBytes c) found) ≡ length found = length-over (frontBytes c) found (omega (arith, length-front c)) in
+      length-placed 32 m (over (frontBytes c) found) (omega arith) ∙ all ∙ is
+
+  -- the same of the two calls
+  pub read-of-write : Fits c → cardRead (writeLeaves c found) ≡ c
+  unfolding cardRead writeLeaves recordLength
+  read-of-write fits = rw (eq-eqb (length found) 40 is, eq-eqb (length (recordOf c found)) 40 length-record) (card-of-record fits)
