@@ -1,7 +1,7 @@
-pub mod Told
-pub mod Ways
+mod Told
+mod Ways
 pub mod Unique
-pub mod Records
-pub mod Numbers
-pub mod WalkTold
+mod Records
+mod Numbers
+mod WalkTold
 pub mod UniqueWalked

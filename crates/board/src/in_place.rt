@@ -37,6 +37,13 @@ fn tell(heard: Heard) -> Told
     }
 }
 
+// A fresh walk.
+fn fresh(family: u16) -> Walk
+    ensures { λ r. ⌜ r ≡ started family ⌝ }
+{
+    Walk::start(family)
+}
+
 fn hear_silence(walk: Walk, list: &mut [u64]) -> Told
     ensures { λ r. ⌜ Tells (hearing walk Silence [] (now (list .entry))) r (now (list .exit)) ⌝ }
 {
@@ -83,7 +90,7 @@ fn ask(walk: Walk, room: &mut [u8]) -> i64
 pub extern "C" fn ek_walk_start(walk: &mut Walk, family: u16)
     ensures { λ _. ⌜ now (walk .exit) ≡ started family ⌝ }
 {
-    *walk = Walk::start(family);
+    *walk = fresh(family);
 }
 
 #[no_mangle]

@@ -1,5 +1,5 @@
-pub mod Fields
-pub mod Reading
-pub mod Putting
+mod Fields
+mod Reading
+mod Putting
 pub mod RoundTrip
 pub mod Unique

@@ -14,16 +14,16 @@ use Rattle.frames.proofs.Fields.{length-field-bytes}
 use Rattle.frames.proofs.Ways.{puts-served}
 use Rattle.frames.proofs.Unique.{put-field-unique}
 use Rattle.card.specs.declared.Card.{Card}
-use Rattle.record.specs.Record.{flagByte, modeByte, runningByte, slotByte, lengthByte, maskField, heldByte, stateBytes, frontBytes, recordOf}
+use Rattle.record.specs.declared.bytes.Fields.{Fields}
+use Rattle.record.specs.Record.{flagByte, modeByte, fieldsOf, heldByte, stateBytes, frontBytes, recordOf}
 
 -- ten stores
-pub state-put : (c : Card) (e : List ℕ) {f g m r s n h : ℕ} → f ≡ flagByte (c .«afi_locked») → g ≡ flagByte (c .«dsfid_locked»)
-    → m ≡ modeByte (c .mode) → r ≡ runningByte (c .sequence) → s ≡ slotByte (c .sequence) → n ≡ lengthByte (c .sequence) → h ≡ heldByte (c .held)
-    → length e ≡ 40
-    → sets e 16 (c .afi ∷ c .dsfid ∷ f ∷ g ∷ c .«ic_reference» ∷ m ∷ r ∷ s ∷ n ∷ h ∷ []) ≡ placed 16 (stateBytes c) e
+pub state-put : (c : Card) (e : List ℕ) {t : Fields} {f g m h : ℕ} → t ≡ fieldsOf (c .sequence) → f ≡ flagByte (c .«afi_locked») → g ≡ flagByte (c .«dsfid_locked»)
+    → m ≡ modeByte (c .mode) → h ≡ heldByte (c .held) → length e ≡ 40
+    → sets e 16 (c .afi ∷ c .dsfid ∷ f ∷ g ∷ c .«ic_reference» ∷ m ∷ t .running ∷ t .slot ∷ t .length ∷ h ∷ []) ≡ placed 16 (stateBytes c) e
 unfolding stateBytes
-state-put c e p q u v w x y is =
-    (λ i. sets e 16 (c .afi ∷ c .dsfid ∷ p i ∷ q i ∷ c .«ic_reference» ∷ u i ∷ v i ∷ w i ∷ x i ∷ y i ∷ []))
+state-put c e s p q u v is =
+    (λ i. sets e 16 (c .afi ∷ c .dsfid ∷ p i ∷ q i ∷ c .«ic_reference» ∷ u i ∷ s i .running ∷ s i .slot ∷ s i .length ∷ v i ∷ []))
     ∙ sets-placed 16 (stateBytes c) e (omega arith)
 
 -- a field that has room
@@ -52,9 +52,9 @@ pub length-front : (c : Card) → length (frontBytes c) ≡ 26
 unfolding frontBytes stateBytes
 length-front c = simp (length-append, length-field-bytes) refl
 
-pub card-put : (c : Card) (e : List ℕ) {p q u v : ℤ} {l1 l2 l3 l4 l5 : List ℕ} {mask : ℕ} → length e ≡ 40 → PutsField e 0 8 (c .uid) p l1
-    → PutsField l1 8 4 (c .blocks) q l2 → PutsField l2 12 4 (c .size) u l3 → l4 ≡ placed 16 (stateBytes c) l3 → mask ≡ maskField (c .sequence)
-    → PutsField l4 32 8 mask v l5 → l5 ≡ recordOf c e
+pub card-put : (c : Card) (e : List ℕ) {p q u v : ℤ} {l1 l2 l3 l4 l5 : List ℕ} {t : Fields} → length e ≡ 40 → PutsField e 0 8 (c .uid) p l1
+    → PutsField l1 8 4 (c .blocks) q l2 → PutsField l2 12 4 (c .size) u l3 → l4 ≡ placed 16 (stateBytes c) l3 → t ≡ fieldsOf (c .sequence)
+    → PutsField l4 32 8 (t .mask) v l5 → l5 ≡ recordOf c e
 unfolding recordOf frontBytes
 card-put c e {l1} {l2} {l3} {l4} {l5} is a b d s m k =
     let one : List ℕ = fieldBytes 8 (c .uid) in

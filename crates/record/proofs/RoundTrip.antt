@@ -5,12 +5,12 @@ use mathlib.Core.Bool.{Bool, true, false}
 use mathlib.Core.List.{List, _++_}
 use Prim.Native.Nat.{ℕ, _+_, _^_, _≤_, _<_}
 use native.Mathlib.Omega.{arith}
-use borrow.Author.Tests.{ne-eqb}
+use borrow.Author.Tests.{eq-eqb, ne-eqb}
 use lib.ListN.{length, take, drop}
 use lib.Seq.{length-take-le, take-at, drop-at}
 use mathlib.Core.List.{append-assoc}
 use Rattle.lent.specs.Lent.{over, placed}
-use Rattle.lent.proofs.Over.{length-over}
+use Rattle.lent.proofs.Over.{length-over, length-placed}
 use Rattle.frames.specs.Field.{fieldOf, fieldBytes, fieldAt}
 use Rattle.frames.proofs.Fields.{field-of-bytes, length-field-bytes}
 use Rattle.card.specs.declared.Card.{Card}
@@ -20,7 +20,7 @@ use Rattle.card.specs.declared.Sequence.{Sequence}
 use Rattle.card.specs.declared.Sequence.the-variants.{Idle, Running}
 use Rattle.card.specs.declared.Held.{Held}
 use Rattle.card.specs.declared.Held.the-variants.{Free, Success, Code}
-use Rattle.record.specs.Record.{flagOf, modeOf, sequenceOf, heldOf, cardOf, flagByte, modeByte, runningByte, slotByte, lengthByte, maskField, heldByte, stateBytes, frontBytes, recordOf}
+use Rattle.record.specs.Record.{flagOf, modeOf, sequenceOf, heldOf, cardOf, flagByte, modeByte, fieldsOf, heldByte, stateBytes, frontBytes, recordOf, recordLength, cardRead, writeLeaves}
 use Rattle.record.proofs.Putting.{length-front}
 
 -- the numbers fit their fields; the bytes 0 and 1 hold no code
@@ -28,7 +28,7 @@ pub record Fits (c : Card) : Type 0 where
   pub uid : c .uid < 256 ^ 8
   pub blocks : c .blocks < 256 ^ 4
   pub size : c .size < 256 ^ 4
-  pub mask : maskField (c .sequence) < 256 ^ 8
+  pub mask : fieldsOf (c .sequence) .mask < 256 ^ 8
   pub code : (code : ℕ) → c .held ≡ Code code → 2 ≤ code
 
 flag-back : (b : Bool) → flagOf (flagByte b) ≡ b
@@ -42,8 +42,8 @@ mode-back Ready = refl
 mode-back Quiet = refl
 mode-back Selected = refl
 
-sequence-back : (s : Sequence) → sequenceOf (runningByte s) (slotByte s) (lengthByte s) (maskField s) ≡ s
-unfolding sequenceOf runningByte slotByte lengthByte maskField
+sequence-back : (s : Sequence) → sequenceOf (fieldsOf s .running) (fieldsOf s .slot) (fieldsOf s .length) (fieldsOf s .mask) ≡ s
+unfolding sequenceOf fieldsOf
 sequence-back Idle = refl
 sequence-back (Running slot n mask) = refl
 
@@ -68,11 +68,11 @@ module _ (c : Card) (found : List ℕ) (is : length found ≡ 40) where
   unfolding recordOf placed over frontBytes stateBytes fieldBytes fieldAt
   size-back = refl
 
-  mask-back : fieldAt (recordOf c found) 32 8 ≡ fieldOf (fieldBytes 8 (maskField (c .sequence)))
+  mask-back : fieldAt (recordOf c found) 32 8 ≡ fieldOf (fieldBytes 8 (fieldsOf (c .sequence) .mask))
   unfolding recordOf placed fieldAt
   mask-back =
       let x : List ℕ = over (frontBytes c) found in
-      let m : List ℕ = fieldBytes 8 (maskField (c .sequence)) in
+      let m : List ℕ = fieldBytes 8 (fieldsOf (c .sequence) .mask) in
       let all : length x ≡ length found = length-over (frontBytes c) found (omega (arith, length-front c)) in
       let before : length (take 32 x) ≡ 32 = length-take-le 32 x (omega arith) in
       let whole : (take 32 x ++ m) ++ drop (32 + length m) x ≡ take 32 x ++ (m ++ drop (32 + length m) x) =
@@ -81,7 +81,7 @@ module _ (c : Card) (found : List ℕ) (is : length found ≡ 40) where
       drop-at (take 32 x) (m ++ drop (32 + length m) x) 32 before in
       ap (λ (l : List ℕ). fieldOf (take 8 (drop 32 l))) whole
       ∙ ap (λ (l : List ℕ). fieldOf (take 8 l)) from
-      ∙ ap fieldOf (take-at m (drop (32 + length m) x) 8 (length-field-bytes 8 (maskField (c .sequence))))
+      ∙ ap fieldOf (take-at m (drop (32 + length m) x) 8 (length-field-bytes 8 (fieldsOf (c .sequence) .mask)))
 
   pub card-of-record : Fits c → cardOf (recordOf c found) ≡ c
   unfolding cardOf recordOf placed over frontBytes stateBytes fieldBytes
@@ -89,9 +89,9 @@ module _ (c : Card) (found : List ℕ) (is : length found ≡ 40) where
       let u : fieldAt (recordOf c found) 0 8 ≡ c .uid = uid-back ∙ field-of-bytes 8 (c .uid) (fits .uid) in
       let b : fieldAt (recordOf c found) 8 4 ≡ c .blocks = blocks-back ∙ field-of-bytes 4 (c .blocks) (fits .blocks) in
       let s : fieldAt (recordOf c found) 12 4 ≡ c .size = size-back ∙ field-of-bytes 4 (c .size) (fits .size) in
-      let m : fieldAt (recordOf c found) 32 8 ≡ maskField (c .sequence) = mask-back ∙ field-of-bytes 8 (maskField (c .sequence)) (fits .mask) in
-      let q : sequenceOf (runningByte (c .sequence)) (slotByte (c .sequence)) (lengthByte (c .sequence)) (fieldAt (recordOf c found) 32 8) ≡ c .sequence =
-      ap (λ (v : ℕ). sequenceOf (runningByte (c .sequence)) (slotByte (c .sequence)) (lengthByte (c .sequence)) v) m
+      let m : fieldAt (recordOf c found) 32 8 ≡ fieldsOf (c .sequence) .mask = mask-back ∙ field-of-bytes 8 (fieldsOf (c .sequence) .mask) (fits .mask) in
+      let q : sequenceOf (fieldsOf (c .sequence) .running) (fieldsOf (c .sequence) .slot) (fieldsOf (c .sequence) .length) (fieldAt (recordOf c found) 32 8) ≡ c .sequence =
+      ap (λ (v : ℕ). sequenceOf (fieldsOf (c .sequence) .running) (fieldsOf (c .sequence) .slot) (fieldsOf (c .sequence) .length) v) m
       ∙ sequence-back (c .sequence) in
       λ i.
       record {
@@ -107,3 +107,16 @@ module _ (c : Card) (found : List ℕ) (is : length found ≡ 40) where
         sequence = q i;
         held = held-back (c .held) (fits .code) i;
       }
+
+  length-record : length (recordOf c found) ≡ 40
+  unfolding recordOf
+  length-record =
+      let m : List ℕ = fieldBytes 8 (fieldsOf (c .sequence) .mask) in
+      let n : length m ≡ 8 = length-field-bytes 8 (fieldsOf (c .sequence) .mask) in
+      let all : length (over (frontBytes c) found) ≡ length found = length-over (frontBytes c) found (omega (arith, length-front c)) in
+      length-placed 32 m (over (frontBytes c) found) (omega arith) ∙ all ∙ is
+
+  -- the same of the two calls
+  pub read-of-write : Fits c → cardRead (writeLeaves c found) ≡ c
+  unfolding cardRead writeLeaves recordLength
+  read-of-write fits = rw (eq-eqb (length found) 40 is, eq-eqb (length (recordOf c found)) 40 length-record) (card-of-record fits)

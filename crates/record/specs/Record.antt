@@ -15,6 +15,7 @@ use Rattle.card.specs.declared.Sequence.{Sequence}
 use Rattle.card.specs.declared.Sequence.the-variants.{Idle, Running}
 use Rattle.card.specs.declared.Held.{Held}
 use Rattle.card.specs.declared.Held.the-variants.{Free, Success, Code}
+use Rattle.record.specs.declared.bytes.Fields.{Fields}
 
 -- the length of the record, in bytes
 unfoldable pub recordLength : ℕ
@@ -71,21 +72,9 @@ modeByte Quiet = 1
 modeByte Selected = 2
 
 -- with no sequence, all four of its fields are 0
-unfoldable pub runningByte : Sequence → ℕ
-runningByte Idle = 0
-runningByte (Running slot n mask) = 1
-
-unfoldable pub slotByte : Sequence → ℕ
-slotByte Idle = 0
-slotByte (Running slot n mask) = slot
-
-unfoldable pub lengthByte : Sequence → ℕ
-lengthByte Idle = 0
-lengthByte (Running slot n mask) = n
-
-unfoldable pub maskField : Sequence → ℕ
-maskField Idle = 0
-maskField (Running slot n mask) = mask
+unfoldable pub fieldsOf : Sequence → Fields
+fieldsOf Idle = record { running = 0; slot = 0; length = 0; mask = 0 }
+fieldsOf (Running slot n mask) = record { running = 1; slot = slot; length = n; mask = mask }
 
 unfoldable pub heldByte : Held → ℕ
 heldByte Free = 0
@@ -101,9 +90,9 @@ stateBytes c =
     ∷ flagByte (c .«dsfid_locked»)
     ∷ c .«ic_reference»
     ∷ modeByte (c .mode)
-    ∷ runningByte (c .sequence)
-    ∷ slotByte (c .sequence)
-    ∷ lengthByte (c .sequence)
+    ∷ fieldsOf (c .sequence) .running
+    ∷ fieldsOf (c .sequence) .slot
+    ∷ fieldsOf (c .sequence) .length
     ∷ heldByte (c .held)
     ∷ []
 
@@ -113,7 +102,7 @@ frontBytes c = fieldBytes 8 (c .uid) ++ fieldBytes 4 (c .blocks) ++ fieldBytes 4
 
 -- the whole: bytes 26 to 31 as found, and the mask from byte 32 on
 unfoldable pub recordOf : Card → List ℕ → List ℕ
-recordOf c found = placed 32 (fieldBytes 8 (maskField (c .sequence))) (over (frontBytes c) found)
+recordOf c found = placed 32 (fieldBytes 8 (fieldsOf (c .sequence) .mask)) (over (frontBytes c) found)
 
 -- bytes of another length are number 1, "card record", and stay as found
 unfoldable pub writeNumber : List ℕ → ℕ

@@ -2,7 +2,7 @@
 ghost use mathlib.Core.Path.{_≡_};
 ghost use lib.ListN.{length};
 ghost use Rattle.lent.specs.Lent.{placed};
-ghost use Rattle.record.specs.Record.{flagByte, modeByte, runningByte, slotByte, lengthByte, maskField, heldByte, stateBytes, recordOf};
+ghost use Rattle.record.specs.Record.{flagByte, modeByte, fieldsOf, heldByte, stateBytes, recordOf};
 use card::Card;
 use card::Held;
 use card::Mode;
@@ -24,39 +24,30 @@ fn mode_byte(mode: Mode) -> u8
     }
 }
 
-fn running_byte(sequence: Sequence) -> u8
-    ensures { λ r. ⌜ r ≡ runningByte sequence ⌝ }
-{
-    match sequence {
-        Sequence::Idle => 0,
-        Sequence::Running(_, _, _) => 1,
-    }
+// A slot sequence in the record's fields. With none, all four are 0.
+pub(crate) struct Fields {
+    pub running: u8,
+    pub slot: u8,
+    pub length: u8,
+    pub mask: u64,
 }
 
-fn slot_byte(sequence: Sequence) -> u8
-    ensures { λ r. ⌜ r ≡ slotByte sequence ⌝ }
+fn fields_of(sequence: Sequence) -> Fields
+    ensures { λ r. ⌜ r ≡ fieldsOf sequence ⌝ }
 {
     match sequence {
-        Sequence::Idle => 0,
-        Sequence::Running(slot, _, _) => slot,
-    }
-}
-
-fn length_byte(sequence: Sequence) -> u8
-    ensures { λ r. ⌜ r ≡ lengthByte sequence ⌝ }
-{
-    match sequence {
-        Sequence::Idle => 0,
-        Sequence::Running(_, n, _) => n,
-    }
-}
-
-fn mask_field(sequence: Sequence) -> u64
-    ensures { λ r. ⌜ r ≡ maskField sequence ⌝ }
-{
-    match sequence {
-        Sequence::Idle => 0,
-        Sequence::Running(_, _, mask) => mask,
+        Sequence::Idle => Fields {
+            running: 0,
+            slot: 0,
+            length: 0,
+            mask: 0,
+        },
+        Sequence::Running(slot, length, mask) => Fields {
+            running: 1,
+            slot: slot,
+            length: length,
+            mask: mask,
+        },
     }
 }
 
@@ -78,15 +69,16 @@ fn put_state(card: Card, bytes: &mut [u8])
     let mode = card.mode;
     let sequence = card.sequence;
     let held = card.held;
+    let fields = fields_of(sequence);
     bytes[16] = card.afi;
     bytes[17] = card.dsfid;
     bytes[18] = flag_byte(card.afi_locked);
     bytes[19] = flag_byte(card.dsfid_locked);
     bytes[20] = card.ic_reference;
     bytes[21] = mode_byte(mode);
-    bytes[22] = running_byte(sequence);
-    bytes[23] = slot_byte(sequence);
-    bytes[24] = length_byte(sequence);
+    bytes[22] = fields.running;
+    bytes[23] = fields.slot;
+    bytes[24] = fields.length;
     bytes[25] = held_byte(held);
 }
 
@@ -96,9 +88,10 @@ pub(crate) fn put_card(card: Card, bytes: &mut [u8])
     ensures { λ _. ⌜ now (bytes .exit) ≡ recordOf card (now (bytes .entry)) ⌝ }
 {
     let sequence = card.sequence;
+    let fields = fields_of(sequence);
     frames::put_field(bytes, 0, 8, card.uid);
     frames::put_field(bytes, 8, 4, card.blocks as u64);
     frames::put_field(bytes, 12, 4, card.size as u64);
     put_state(card, bytes);
-    frames::put_field(bytes, 32, 8, mask_field(sequence));
+    frames::put_field(bytes, 32, 8, fields.mask);
 }

@@ -44,7 +44,8 @@ use Rattle.card.proofs.Unique.{hear-mark-unique, hear-inventory-unique}
 use Rattle.requests.proofs.Unique.{decide-unique}
 use Rattle.requests.proofs.Examples.{BlockReads, block-reads}
 use Rattle.card.proofs.Examples.{Cards, cards}
-use Rattle.record.specs.Record.{cardRead, Writes}
+use Rattle.record.specs.Record.{cardRead, writeLeaves, Writes}
+use Rattle.record.proofs.RoundTrip.{Fits, read-of-write}
 use Rattle.record.proofs.Unique as record-unique
 use Rattle.play.specs.declared.Served.{Served}
 use Rattle.play.specs.Events.{Outcome, Leaves}
@@ -139,6 +140,10 @@ an-inventory-frame = inventory-frame
 -- Whatever frame arrives, what is decided stays within the card's blocks and within the frame, and the shape stays.
 within-the-card : (card : Card) (locks frame : List ℕ) → DeedFits card frame (decided card locks frame)
 within-the-card = decided-fits
+
+-- A card that is written into its record of forty bytes is read back from it.
+reading-what-was-written : (c : Card) (found : List ℕ) → length found ≡ 40 → Fits c → cardRead (writeLeaves c found) ≡ c
+reading-what-was-written = read-of-write
 
 -- ---- The walk
 
