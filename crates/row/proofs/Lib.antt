@@ -1,4 +1,5 @@
-mod Sent
+mod AtMost
+mod Sending
 mod Answer
 mod RowPart
 mod Dealt

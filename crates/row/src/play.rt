@@ -2,10 +2,11 @@
 ghost use mathlib.Core.Path.{_≡_};
 ghost use lib.ListN.{take};
 ghost use Rattle.row.specs.Row.{airKind, deskAfter, cardsOf};
-ghost use Rattle.row.specs.Play.{freshDesk, cardsIn, slotted, goesOn, ended};
+ghost use Rattle.row.specs.Play.{freshDesk, slotted, goesOn, ended};
 use crate::Air;
 use crate::Desk;
 use crate::Slotted;
+use crate::row::at_most;
 use crate::row::card_of;
 use crate::row::listen_row;
 use card::Card;
@@ -65,18 +66,11 @@ pub fn hear(desk: Desk, air: Air) -> Desk
     }
 }
 
-// Of a row of 100 no more than 100 cards hear.
-fn cards_in(n: usize) -> usize
-    ensures { λ r. ⌜ r ≡ cardsIn n ⌝ }
-{
-    if n <= 100 { n } else { 100 }
-}
-
 // One slot over the first n cards of the row.
 pub fn slot(mut row: [Card; 100], n: usize, desk: Desk) -> Slotted
     ensures { λ r. ⌜ r ≡ slotted row n desk ⌝ }
 {
-    let m = cards_in(n);
+    let m = at_most(100, n);
     let air = listen_row(&mut row[..m], desk.walk);
     let next = hear(desk, air);
     Slotted {
