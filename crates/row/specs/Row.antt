@@ -120,6 +120,13 @@ airKind air = cond (eqb (air .answers) 0) kind.Silence (cond (eqb (air .answers)
 unfoldable pub airBytes : Air → List ℕ
 airBytes air = sealed (0x00 ∷ air .dsfid ∷ fieldBytes 8 (air .uid))
 
+-- the bytes that are handed to the walk: where not just one card answers they are not looked at, and stay 0
+unfoldable pub noAnswer : List ℕ
+noAnswer = 0 ∷ 0 ∷ 0 ∷ 0 ∷ 0 ∷ 0 ∷ 0 ∷ 0 ∷ 0 ∷ 0 ∷ 0 ∷ 0 ∷ []
+
+unfoldable pub bytesHeard : Air → List ℕ
+bytesHeard air = cond (eqb (air .answers) 1) (airBytes air) noAnswer
+
 -- the walk with its list
 unfoldable pub deskAfter : Desk → Air → Desk
 deskAfter d air =
