@@ -8,6 +8,7 @@ mod Played
 mod LocalRow
 pub mod Accepted
 mod Values
+mod Lending
 mod RowField
 pub mod CardTurned
 pub mod RowTurned

@@ -2,8 +2,9 @@
 -- Assumes nothing: these are definitions.
 use Prim.Native.Nat.{ℕ, zero, suc}
 use mathlib.Core.List.{[], _∷_, List}
-use mir.Syntax.{Ty, tyUnit, Local, local}
+use mir.Syntax.{Ty, tyUnit, Local, local, w64}
 use mir.Val.{Val}
+use denote.Plain.{uint-vals}
 use denote.Array.{array-vals}
 use denote.Struct.Laws as LL
 use Rattle.card.specs.declared.Card.{Card}
@@ -25,12 +26,15 @@ use Rattle.row.proofs.Sent.Laws as S′
 use Rattle.row.proofs.Slotted as T°
 use Rattle.row.proofs.Slotted.Laws as T′
 
--- of a card, a row, a walk, what it sends, what is in the air, a desk, and what a slot makes of them
+-- of a card, a row, UIDs, a walk, what it sends, what is in the air, a desk, and what a slot makes of them
 abbrev pub cardVals : Card → List Val
 cardVals = LL.vals C°.the-type C′.the-laws
 
 abbrev pub rowVals : List Card → List Val
 rowVals = array-vals cardVals
+
+abbrev pub uidVals : List ℕ → List Val
+uidVals = array-vals (uint-vals w64)
 
 abbrev pub walkVals : Walk → List Val
 walkVals = LL.vals W°.the-type W′.the-laws

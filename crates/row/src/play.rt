@@ -1,7 +1,8 @@
 // The walk with its list, slot after slot over the row.
 ghost use mathlib.Core.Path.{_≡_};
+ghost use Prim.Native.Nat.{ℕ, _≤_};
 ghost use lib.ListN.{take};
-ghost use Rattle.row.specs.Row.{airKind, bytesHeard, deskAfter, cardsOf};
+ghost use Rattle.row.specs.Row.{atMost, airKind, bytesHeard, deskAfter, cardsOf};
 ghost use Rattle.row.specs.Play.{freshDesk, slotted, goesOn, ended};
 use crate::Air;
 use crate::Desk;
@@ -98,18 +99,25 @@ pub fn goes_on(desk: Desk, n: u32) -> bool
     if n < 7696 { walk.ending == 0 } else { false }
 }
 
-// A fresh walk over the cards of the first n UIDs, to its end.
-pub fn play(uids: [u64; 100], n: usize) -> Desk
-    ensures { λ r. ⌜ r ≡ ended (take n uids) ⌝ }
+// A fresh walk over the cards of the first n UIDs, to its end: for each slot they are lent where they stand. Any k that counts as n will do.
+fn play_over(uids: [u64; 100], n: usize) -> Desk
+    requires { ⌜ n ≤ 100 ⌝ }
+    ensures { λ r. ⌜ ((k : ℕ) → atMost 100 k ≡ n → r ≡ ended (take k uids)) ⌝ }
 {
     let mut row = deal(uids);
     let mut desk = fresh();
-    let mut count = 0;
-    while goes_on(desk, count) {
-        let next = slot(row, n, desk);
-        row = next.row;
-        desk = next.desk;
-        count += 1;
+    let mut slot = 0;
+    while goes_on(desk, slot) {
+        let air = listen_row(&mut row[..n], desk.walk);
+        desk = hear(desk, air);
+        slot += 1;
     }
     desk
+}
+
+// The same of any number of cards, over 100 of 100.
+pub fn play(uids: [u64; 100], n: usize) -> Desk
+    ensures { λ r. ⌜ r ≡ ended (take n uids) ⌝ }
+{
+    play_over(uids, at_most(100, n))
 }

@@ -1,7 +1,7 @@
 -- The MIR of `slot`: the row is cut at m and lent, comes back and is made whole, and the walk hears what is in the air.
 -- Assumes `Given`, and that each function called meets its contract.
 use mathlib.Core.Path.{_≡_, refl, sym, ap, subst, _∙_}
-use Prim.Native.Nat.{ℕ, _+_, _-_, _≤_, _<_, _^_}
+use Prim.Native.Nat.{ℕ, _-_, _≤_, _<_, _^_}
 use native.Mathlib.Omega.{arith}
 use mathlib.Core.List.{[], _∷_, List, _++_}
 use lib.ListN.{length, take, length-append, length-drop}
@@ -30,7 +30,6 @@ use denote.Laws.{Is, shows}
 use denote.Plain.{uint-makes, uint-tells, uint-lawful}
 use denote.Builtin.{usize}
 use denote.Array.{Array, array-makes, array-lawful}
-use denote.Ref.{RefT}
 use denote.Slice.{sliceVal, MutSlice, Room}
 use denote.Lend.{Held, lends-slice, slice-back}
 use denote.Steps.{only, owned, peeks, heard, nothing}
@@ -70,7 +69,8 @@ use Rattle.row.proofs.play.hear.Symbol.{name as #hear}
 use Rattle.row.proofs.play.slot as f
 use Rattle.row.proofs.play.slot.Code as code
 use Rattle.row.proofs.Values.{cardVals, rowVals, walkVals, airVals, deskVals, slottedVals, tyAt}
-use Rattle.row.proofs.play.slot.Proof.Calls.{AtMost, ListenRow, Hear, at-most-of, hear-of, to-at-most, to-hear, lent, to-listen-row, has-at-most, has-hear, has-listen-row}
+use Rattle.row.proofs.Lending.{ListenRow, Hear, hear-of, to-hear, lent, to-listen-row, has-hear, has-listen-row}
+use Rattle.row.proofs.play.slot.Proof.Calls.{AtMost, at-most-of, to-at-most, has-at-most}
 
 abbrev pub stayed : Stays (f.ended .signature .params) (f.ended .kept)
 stayed = (stay-none (λ _. Array C°.the-row 100) yes, (stay-none (λ _. usize) yes, (stay-none (λ _. D°.the-row) yes, tt)))
