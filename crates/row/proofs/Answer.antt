@@ -2,18 +2,22 @@
 -- Assumes nothing.
 use Prim.Native.Nat.{ℕ}
 use mathlib.Core.List.{List, [], _∷_}
-use mathlib.Core.Path.{_≡_, _∙_, ap}
+use mathlib.Core.Bool.{Bool, true, false, cond}
+use mathlib.Core.Path.{_≡_, refl, _∙_, ap}
+use lib.Dec.{eqb}
 use lib.IntN.{ℤ}
 use Rattle.lent.specs.Lent.{over, placed}
 use Rattle.crc.specs.Check.{checkBytes, sealed}
 use Rattle.frames.specs.Field.{fieldBytes, putLeaves, PutsField}
 use Rattle.frames.specs.Frame.{sealLeaves, Seals}
+use Rattle.walk.specs.declared.Walk.{Walk}
 use Rattle.walk.specs.declared.Kind.{Kind}
+use Rattle.walk.specs.declared.Kind.the-variants as kinds
 use Rattle.walk.specs.declared.Heard.{Heard}
-use Rattle.walk.specs.Hear.{Hearing, hearing, Hears}
+use Rattle.walk.specs.Hear.{judged, Hearing, hearing, Hears}
 use Rattle.row.specs.declared.Air.{Air}
 use Rattle.row.specs.declared.Desk.{Desk}
-use Rattle.row.specs.Row.{airKind, airBytes, deskAfter}
+use Rattle.row.specs.Row.{airKind, airBytes, noAnswer, bytesHeard, deskAfter}
 
 -- room for an answer, with the DSFID
 abbrev pub begun : ℕ → List ℕ
@@ -23,11 +27,26 @@ pub answer-sealed : (air : Air) {first second : List ℕ} {r q : ℤ} → PutsFi
 unfolding airBytes putLeaves placed fieldBytes sealLeaves over sealed checkBytes
 answer-sealed air h k = k .leaves ∙ ap (λ (bs : List ℕ). sealLeaves bs 10) (h .leaves)
 
-pub desk-heard : (d : Desk) (air : Air) {kind : Kind} {bytes list : List ℕ} {r : Heard} → kind ≡ airKind air → bytes ≡ airBytes air
+-- a slot that is silent or a clash is heard alike whatever bytes are handed over
+heard-alike : (w : Walk) (full blank list : List ℕ) (none one : Bool)
+    → hearing w (cond none kinds.Silence (cond one kinds.Bytes kinds.Clash)) (cond one full blank) list
+    ≡ hearing w (cond none kinds.Silence (cond one kinds.Bytes kinds.Clash)) full list
+unfolding hearing judged
+heard-alike w full blank list true true = refl
+heard-alike w full blank list true false = refl
+heard-alike w full blank list false true = refl
+heard-alike w full blank list false false = refl
+
+bytes-heard : (d : Desk) (air : Air) → hearing (d .walk) (airKind air) (bytesHeard air) (d .list) ≡ hearing (d .walk) (airKind air) (airBytes air) (d .list)
+unfolding airKind bytesHeard
+bytes-heard d air = heard-alike (d .walk) (airBytes air) noAnswer (d .list) (eqb (air .answers) 0) (eqb (air .answers) 1)
+
+pub desk-heard : (d : Desk) (air : Air) {kind : Kind} {bytes list : List ℕ} {r : Heard} → kind ≡ airKind air → bytes ≡ bytesHeard air
     → Hears (hearing (d .walk) kind bytes (d .list)) r list → record { walk = r .walk; list = list } ≡ deskAfter d air
 unfolding deskAfter
 desk-heard d air k b h =
+    let alike : hearing (d .walk) _ _ (d .list) ≡ hearing (d .walk) (airKind air) (airBytes air) (d .list) = (λ j. hearing (d .walk) (k j) (b j) (d .list)) ∙ bytes-heard d air in
     λ i. record {
-      walk = (h .walk ∙ ap (λ (x : Hearing). x .walk) (λ j. hearing (d .walk) (k j) (b j) (d .list))) i;
-      list = (h .list-left ∙ ap (λ (x : Hearing). x .list) (λ j. hearing (d .walk) (k j) (b j) (d .list))) i;
+      walk = (h .walk ∙ ap (λ (x : Hearing). x .walk) alike) i;
+      list = (h .list-left ∙ ap (λ (x : Hearing). x .list) alike) i;
     }

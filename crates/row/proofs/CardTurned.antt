@@ -24,7 +24,7 @@ use Rattle.field.proofs.InTime.{inStep, calls}
 use Rattle.field.proofs.Requested.{request-decided}
 use Rattle.field.proofs.MarkHeard.{mark-heard}
 use Rattle.field.proofs.RowAsked.{Fits, accepted-fits, walk-asked, sent-request, sent-mark}
-use Rattle.row.specs.Row.{noBytes, turnBy, turnOf}
+use Rattle.row.specs.Row.{noBytes, sentOf, heardBy, turnBy, turnOf}
 
 -- what becomes of a card c of the start
 unfoldable pub stepped : Walk → Card → Turn
@@ -53,20 +53,20 @@ request-heard c card w fits e same =
 
 -- ---- what is sent
 
-turn-asked : (w : Walk) (c : Card) → isAccepted w ≡ true → turnOf w c ≡ turnBy (sent w) (roomAfter w (sent w) noBytes) c
-unfolding turnOf noBytes
-turn-asked w c e = ap (λ (a : Asking). turnBy (a .send) (a .room) c) (walk-asked w noBytes e (omega arith))
+turn-asked : (w : Walk) (c : Card) → isAccepted w ≡ true → turnOf w c ≡ heardBy (sent w) (roomAfter w (sent w) noBytes) c
+unfolding turnOf turnBy sentOf noBytes
+turn-asked w c e = ap (λ (a : Asking). heardBy (a .send) (a .room) c) (walk-asked w noBytes e (omega arith))
 
 pub request-turned : (w : Walk) (c card : Card) → isAccepted w ≡ true → isRunning w ≡ true → w .slot ≡ 0 → cleared card ≡ cleared c
     → turnOf w card ≡ stepped w c
-unfolding turnBy roomAfter
+unfolding heardBy roomAfter
 request-turned w c card accepted running e same =
     turn-asked w card accepted
     ∙ rw (sent-request w running e, take-over (request w) noBytes) (request-heard c card w (accepted-fits w accepted) e same)
 
 pub mark-turned : (w : Walk) (s : ℕ) (c card : Card) → isAccepted w ≡ true → isRunning w ≡ true → w .slot ≡ suc s
     → card ≡ inStep (w .family) (w .level) (w .mask) s c → turnOf w card ≡ stepped w c
-unfolding turnBy stepped
+unfolding heardBy stepped
 mark-turned w s c card accepted running e same =
     let fits : Fits w = accepted-fits w accepted in
     let below : s < 15 = omega (arith, fits .slot) in

@@ -1,4 +1,5 @@
-mod Sent
+mod AtMost
+mod Sending
 mod Answer
 mod RowPart
 mod Dealt
@@ -7,6 +8,7 @@ mod Played
 mod LocalRow
 pub mod Accepted
 mod Values
+mod Lending
 mod RowField
 pub mod CardTurned
 pub mod RowTurned

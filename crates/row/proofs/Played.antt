@@ -16,11 +16,9 @@ use Rattle.walk.specs.Record.{isAccepted, isRunning}
 use Rattle.walk.specs.Hear.{Hearing, refusal, hearing}
 use Rattle.row.specs.declared.Air.{Air}
 use Rattle.row.specs.declared.Desk.{Desk}
-use Rattle.row.specs.declared.Slotted.{Slotted}
 use Rattle.row.specs.Row.{stillAir, rowAir, rowAfter, airKind, airBytes, deskAfter, slotPlayed, playedFor, cardsOf}
-use Rattle.row.specs.Play.{freshDesk, slotAir, slotted, mostSlots, goesOn, ended}
+use Rattle.row.specs.Play.{freshDesk, mostSlots, goesOn, ended}
 use Rattle.row.proofs.Dealt.{take-cards}
-use Rattle.row.proofs.SlotMade.{first-after}
 
 hearing-ended : (w : Walk) (kind : Kind) (bytes list : List ℕ) → (w .ending ≡ 0 → ⊥) → hearing w kind bytes list ≡ record { walk = w; list = list; number = cond (isAccepted w) 6 10 }
 unfolding hearing refusal isRunning
@@ -55,17 +53,16 @@ pub end-of-dealt : (us : List ℕ) (n : ℕ) (desk : Desk) (row : List Card) →
 unfolding ended mostSlots
 end-of-dealt us n desk row d r = λ i. playedFor 7696 (record { desk = d i; row = (ap (take n) r ∙ take-cards n us) i }) .desk
 
--- a slot more over the first n cards
-pub playing-more : (end : Desk) (k n : ℕ) (desk : Desk) (row : List Card) (s : Slotted) → Playing end k desk (take n row) → k < 7696 → s ≡ slotted row n desk
-    → Playing end (k + 1) (s .desk) (take n (s .row))
-unfolding playedFor slotPlayed slotted slotAir
-playing-more end k n desk row s p l e =
+-- a slot more
+pub playing-slot : (end : Desk) (k : ℕ) (desk next : Desk) (air : Air) (row left : List Card) → Playing end k desk row → k < 7696
+    → air ≡ rowAir (desk .walk) stillAir row → left ≡ rowAfter (desk .walk) row → next ≡ deskAfter desk air → Playing end (k + 1) next left
+unfolding playedFor slotPlayed
+playing-slot end k desk next air row left p l a r e =
     let one : suc (7696 - (k + 1)) ≡ 7696 - k = omega (arith, l) in
     record {
       slots = omega (arith, l);
-      desk-left = ap (λ (t : Slotted). playedFor (7696 - (k + 1)) (record { desk = t .desk; row = take n (t .row) }) .desk) e
-          ∙ ap (λ (cs : List Card). playedFor (7696 - (k + 1)) (record { desk = slotted row n desk .desk; row = cs }) .desk) (first-after (desk .walk) n row)
-          ∙ ap (λ (m : ℕ). playedFor m (record { desk = desk; row = take n row }) .desk) one ∙ p .desk-left;
+      desk-left = (λ i. playedFor (7696 - (k + 1)) (record { desk = (e ∙ ap (deskAfter desk) a) i; row = r i }) .desk)
+          ∙ ap (λ (m : ℕ). playedFor m (record { desk = desk; row = row }) .desk) one ∙ p .desk-left;
     }
 
 -- no more to play

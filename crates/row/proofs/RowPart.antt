@@ -12,7 +12,7 @@ use Rattle.card.specs.declared.Card.{Card}
 use Rattle.walk.specs.declared.Walk.{Walk}
 use Rattle.row.specs.declared.Air.{Air}
 use Rattle.row.specs.declared.Listened.{Listened}
-use Rattle.row.specs.Row.{stillAir, rowAir, rowAfter, Listens}
+use Rattle.row.specs.Row.{sentOf, turnOf, stillAir, rowAir, rowAfter, Listens}
 
 pub record Partly (w : Walk) (ys : List Card) (i : ℕ) (row : List Card) (air : Air) : Type 0 where
   pub within : i ≤ length ys
@@ -27,8 +27,8 @@ module _ (w : Walk) (ys : List Card) (i : ℕ) (row : List Card) (air : Air) (p 
   pub place-within : i < length ys → i < length row
   place-within l = subst (λ (m : ℕ). i < m) (sym (p .long)) l
 
-  pub partly-more : (d : Card) (r : Listened) → i < length ys → Listens w (getD row i d) air r → Partly w ys (i + 1) (set row i (r .card)) (r .air)
-  unfolding rowAir rowAfter
+  pub partly-more : (d : Card) (r : Listened) → i < length ys → Listens (sentOf w) (getD row i d) air r → Partly w ys (i + 1) (set row i (r .card)) (r .air)
+  unfolding rowAir rowAfter turnOf
   partly-more d r l h =
       record {
         within = omega (arith, l);

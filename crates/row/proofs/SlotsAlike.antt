@@ -26,7 +26,7 @@ use Rattle.field.proofs.Stages.{Stage, hears, rests, running-of, stage-slot}
 use Rattle.field.proofs.Demand3.{cards-of}
 use Rattle.row.specs.declared.Air.{Air}
 use Rattle.row.specs.declared.Desk.{Desk}
-use Rattle.row.specs.Row.{Played, noBytes, turnBy, turnOf, stillAir, airKind, airBytes, rowAir, rowAfter, deskAfter, slotPlayed, playedFor}
+use Rattle.row.specs.Row.{Played, noBytes, sentOf, heardBy, turnBy, turnOf, stillAir, airKind, airBytes, rowAir, rowAfter, deskAfter, slotPlayed, playedFor}
 use Rattle.row.proofs.RowTurned.{Turned, row-turned, row-left, row-judged}
 
 abbrev deskOf : Walk → List ℕ → Desk
@@ -64,8 +64,8 @@ hears-alike tags p obey accepted running places room before =
 -- ---- an ended walk
 
 ended-turned : (w : Walk) (c : Card) → isAccepted w ≡ true → isRunning w ≡ false → turnOf w c ≡ still c
-unfolding turnOf turnBy
-ended-turned w c accepted ended = ap (λ (a : Asking). turnBy (a .send) (a .room) c) (ended-asked w noBytes accepted ended)
+unfolding turnOf turnBy sentOf heardBy
+ended-turned w c accepted ended = ap (λ (a : Asking). heardBy (a .send) (a .room) c) (ended-asked w noBytes accepted ended)
 
 ended-row : (w : Walk) (cs : List Card) → isAccepted w ≡ true → isRunning w ≡ false → rowAfter w cs ≡ cs
 unfolding rowAfter

@@ -1,8 +1,8 @@
 -- 01, Bench: a fresh walk over the row, slot after slot. "cards Ready, no family"
 use Prim.Native.Nat.{ℕ, _*_}
-use mathlib.Core.Bool.{Bool, cond, _&&_}
+use mathlib.Core.Bool.{Bool, _&&_}
 use mathlib.Core.List.{List, [], _∷_, _++_}
-use lib.Dec.{leb, ltb}
+use lib.Dec.{ltb}
 use lib.ListN.{take, drop}
 use Rattle.card.specs.declared.Card.{Card}
 use Rattle.walk.specs.declared.Walk.{Walk}
@@ -10,7 +10,7 @@ use Rattle.walk.specs.Record.{started, isRunning}
 use Rattle.row.specs.declared.Air.{Air}
 use Rattle.row.specs.declared.Desk.{Desk}
 use Rattle.row.specs.declared.Slotted.{Slotted}
-use Rattle.row.specs.Row.{stillAir, rowAir, rowAfter, deskAfter, Played, cardsOf, playedFor}
+use Rattle.row.specs.Row.{stillAir, rowAir, rowAfter, deskAfter, cardsOf, playedFor}
 
 -- a list of 64 places, all 0
 unfoldable pub noUids : List ℕ
@@ -25,11 +25,7 @@ noUids =
 unfoldable pub freshDesk : Desk
 freshDesk = record { walk = started 256; list = noUids }
 
--- ---- one slot over the first n cards of a row
-
--- "0 to 100 of them": n over 100 counts as 100
-unfoldable pub cardsIn : ℕ → ℕ
-cardsIn n = cond (leb n 100) n 100
+-- ---- one slot over the first n cards of a row: "0 to 100 of them", so n over 100 counts as 100
 
 unfoldable pub slotAir : Walk → ℕ → List Card → Air
 slotAir w n row = rowAir w stillAir (take n row)

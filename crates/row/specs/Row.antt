@@ -1,9 +1,9 @@
 -- 01, The walk: "The bench's cards stand in one lent row, 0 to 100 of them."
 use Prim.Native.Nat.{ℕ, zero, suc}
-use mathlib.Core.Bool.{Bool, true, false, cond}
+use mathlib.Core.Bool.{false, cond}
 use mathlib.Core.List.{List, [], _∷_}
 use mathlib.Core.Path.{_≡_}
-use lib.Dec.{eqb}
+use lib.Dec.{leb, eqb}
 use lib.ListN.{take}
 use Rattle.crc.specs.Check.{sealed}
 use Rattle.frames.specs.Field.{fieldBytes}
@@ -22,11 +22,11 @@ use Rattle.walk.specs.declared.Kind.{Kind}
 use Rattle.walk.specs.declared.Kind.the-variants as kind
 use Rattle.walk.specs.declared.Send.{Send}
 use Rattle.walk.specs.declared.Send.the-variants.{Nothing, Mark, Request}
-use Rattle.walk.specs.Record.{started}
 use Rattle.walk.specs.Hear.{Hearing, hearing}
-use Rattle.walk.specs.Ask.{Asking, asking}
+use Rattle.walk.specs.Ask.{asking}
 use Rattle.row.specs.declared.Air.{Air}
 use Rattle.row.specs.declared.Desk.{Desk}
+use Rattle.row.specs.declared.Sent.{Sent}
 use Rattle.row.specs.declared.Listened.{Listened}
 
 -- "cards Ready": what else a card holds is free
@@ -54,14 +54,25 @@ cardsOf (u ∷ us) = cardOf u ∷ cardsOf us
 unfoldable pub noBytes : List ℕ
 noBytes = 0 ∷ 0 ∷ 0 ∷ 0 ∷ 0 ∷ 0 ∷ 0 ∷ 0 ∷ 0 ∷ 0 ∷ 0 ∷ 0 ∷ 0 ∷ 0 ∷ []
 
--- what the walk sends reaches a card
-unfoldable pub turnBy : Send → List ℕ → Card → Turn
-turnBy Nothing sent c = still c
-turnBy Mark sent c = marked c
-turnBy (Request n) sent c = heardInventory c (take n sent)
+-- what the walk sends in a slot
+unfoldable pub sentOf : Walk → Sent
+sentOf w = record { send = asking w noBytes .send; bytes = asking w noBytes .room }
+
+-- it reaches a card
+unfoldable pub heardBy : Send → List ℕ → Card → Turn
+heardBy Nothing bytes c = still c
+heardBy Mark bytes c = marked c
+heardBy (Request n) bytes c = heardInventory c (take n bytes)
+
+unfoldable pub turnBy : Sent → Card → Turn
+turnBy s c = heardBy (s .send) (s .bytes) c
 
 unfoldable pub turnOf : Walk → Card → Turn
-turnOf w c = turnBy (asking w noBytes .send) (asking w noBytes .room) c
+turnOf w c = turnBy (sentOf w) c
+
+-- of a row, or of the bytes sent, no more than there are
+unfoldable pub atMost : ℕ → ℕ → ℕ
+atMost most n = cond (leb n most) n most
 
 -- ---- what is in the air of a slot: how many answer, 2 for two or more, and the first one's DSFID and UID
 
@@ -92,9 +103,9 @@ rowAfter w [] = []
 rowAfter w (c ∷ cs) = turnOf w c .card ∷ rowAfter w cs
 
 -- what `listen` and `listen_row` promise
-pub record Listens (w : Walk) (c : Card) (air : Air) (r : Listened) : Type 0 where
-  pub card : r .card ≡ turnOf w c .card
-  pub air-left : r .air ≡ airWith air (turnOf w c .card) (turnOf w c .reply)
+pub record Listens (s : Sent) (c : Card) (air : Air) (r : Listened) : Type 0 where
+  pub card : r .card ≡ turnBy s c .card
+  pub air-left : r .air ≡ airWith air (turnBy s c .card) (turnBy s c .reply)
 
 pub record HearsRow (w : Walk) (row : List Card) (r : Air) (left : List Card) : Type 0 where
   pub air : r ≡ rowAir w stillAir row
@@ -107,6 +118,13 @@ airKind air = cond (eqb (air .answers) 0) kind.Silence (cond (eqb (air .answers)
 
 unfoldable pub airBytes : Air → List ℕ
 airBytes air = sealed (0x00 ∷ air .dsfid ∷ fieldBytes 8 (air .uid))
+
+-- the bytes that are handed to the walk: where not just one card answers they are not looked at, and stay 0
+unfoldable pub noAnswer : List ℕ
+noAnswer = 0 ∷ 0 ∷ 0 ∷ 0 ∷ 0 ∷ 0 ∷ 0 ∷ 0 ∷ 0 ∷ 0 ∷ 0 ∷ 0 ∷ []
+
+unfoldable pub bytesHeard : Air → List ℕ
+bytesHeard air = cond (eqb (air .answers) 1) (airBytes air) noAnswer
 
 -- the walk with its list
 unfoldable pub deskAfter : Desk → Air → Desk

@@ -3,6 +3,7 @@ pub mod play;
 pub mod row;
 
 use card::Card;
+use walk::Send;
 use walk::Walk;
 
 // What is in the air of a slot: how many cards answer, 2 for two or more, and the first one's DSFID and UID.
@@ -23,6 +24,12 @@ pub struct Slotted {
     pub row: [Card; 100],
     pub desk: Desk,
     pub air: Air,
+}
+
+// What the walk sends in a slot, and the bytes of a request.
+struct Sent {
+    send: Send,
+    bytes: [u8; 14],
 }
 
 // A card after a slot, and what is then in the air.

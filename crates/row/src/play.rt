@@ -1,11 +1,13 @@
 // The walk with its list, slot after slot over the row.
 ghost use mathlib.Core.Path.{_≡_};
+ghost use Prim.Native.Nat.{ℕ, _≤_};
 ghost use lib.ListN.{take};
-ghost use Rattle.row.specs.Row.{airKind, deskAfter, cardsOf};
-ghost use Rattle.row.specs.Play.{freshDesk, cardsIn, slotted, goesOn, ended};
+ghost use Rattle.row.specs.Row.{atMost, airKind, bytesHeard, deskAfter, cardsOf};
+ghost use Rattle.row.specs.Play.{freshDesk, slotted, goesOn, ended};
 use crate::Air;
 use crate::Desk;
 use crate::Slotted;
+use crate::row::at_most;
 use crate::row::card_of;
 use crate::row::listen_row;
 use card::Card;
@@ -47,14 +49,24 @@ fn kind_of(air: Air) -> Kind
     Kind::Clash
 }
 
+// The bytes of the answer in the air, where there is just one.
+fn answer_in(air: Air) -> [u8; 12]
+    ensures { λ r. ⌜ r ≡ bytesHeard air ⌝ }
+{
+    let mut bytes = [0u8; 12];
+    if air.answers == 1 {
+        bytes[1] = air.dsfid;
+        frames::put_field(&mut bytes, 2, 8, air.uid);
+        frames::seal(&mut bytes, 10);
+    }
+    bytes
+}
+
 // The answer in the air reaches the walk.
 pub fn hear(desk: Desk, air: Air) -> Desk
     ensures { λ r. ⌜ r ≡ deskAfter desk air ⌝ }
 {
-    let mut bytes = [0u8; 12];
-    bytes[1] = air.dsfid;
-    frames::put_field(&mut bytes, 2, 8, air.uid);
-    frames::seal(&mut bytes, 10);
+    let bytes = answer_in(air);
     let walk = desk.walk;
     let mut list = desk.list;
     let heard = walk.hear(kind_of(air), &bytes, &mut list);
@@ -65,18 +77,11 @@ pub fn hear(desk: Desk, air: Air) -> Desk
     }
 }
 
-// Of a row of 100 no more than 100 cards hear.
-fn cards_in(n: usize) -> usize
-    ensures { λ r. ⌜ r ≡ cardsIn n ⌝ }
-{
-    if n <= 100 { n } else { 100 }
-}
-
 // One slot over the first n cards of the row.
 pub fn slot(mut row: [Card; 100], n: usize, desk: Desk) -> Slotted
     ensures { λ r. ⌜ r ≡ slotted row n desk ⌝ }
 {
-    let m = cards_in(n);
+    let m = at_most(100, n);
     let air = listen_row(&mut row[..m], desk.walk);
     let next = hear(desk, air);
     Slotted {
@@ -94,18 +99,25 @@ pub fn goes_on(desk: Desk, n: u32) -> bool
     if n < 7696 { walk.ending == 0 } else { false }
 }
 
-// A fresh walk over the cards of the first n UIDs, to its end.
-pub fn play(uids: [u64; 100], n: usize) -> Desk
-    ensures { λ r. ⌜ r ≡ ended (take n uids) ⌝ }
+// A fresh walk over the cards of the first n UIDs, to its end: for each slot they are lent where they stand. Any k that counts as n will do.
+fn play_over(uids: [u64; 100], n: usize) -> Desk
+    requires { ⌜ n ≤ 100 ⌝ }
+    ensures { λ r. ⌜ ((k : ℕ) → atMost 100 k ≡ n → r ≡ ended (take k uids)) ⌝ }
 {
     let mut row = deal(uids);
     let mut desk = fresh();
-    let mut count = 0;
-    while goes_on(desk, count) {
-        let next = slot(row, n, desk);
-        row = next.row;
-        desk = next.desk;
-        count += 1;
+    let mut slot = 0;
+    while goes_on(desk, slot) {
+        let air = listen_row(&mut row[..n], desk.walk);
+        desk = hear(desk, air);
+        slot += 1;
     }
     desk
+}
+
+// The same of any number of cards, over 100 of 100.
+pub fn play(uids: [u64; 100], n: usize) -> Desk
+    ensures { λ r. ⌜ r ≡ ended (take n uids) ⌝ }
+{
+    play_over(uids, at_most(100, n))
 }

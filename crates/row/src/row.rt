@@ -1,8 +1,11 @@
 // The row of cards: each slot, what the walk sends reaches every card, and what they answer is in the air.
 ghost use mathlib.Core.Path.{_≡_};
-ghost use Rattle.row.specs.Row.{cardOf, turnOf, crowded, airWith, Listens, HearsRow};
+ghost use lib.ListN.{take};
+ghost use Rattle.card.specs.Frame.{heardInventory};
+ghost use Rattle.row.specs.Row.{cardOf, sentOf, atMost, turnBy, crowded, airWith, Listens, HearsRow};
 use crate::Air;
 use crate::Listened;
+use crate::Sent;
 use card::Card;
 use card::Held;
 use card::Mode;
@@ -31,20 +34,49 @@ pub(crate) fn card_of(uid: u64) -> Card
     }
 }
 
-// What the walk sends reaches a card.
-fn turn(card: Card, walk: Walk) -> Turn
-    ensures { λ r. ⌜ r ≡ turnOf walk card ⌝ }
+// What the walk sends, asked for once a slot.
+fn sending(walk: Walk) -> Sent
+    ensures { λ r. ⌜ r ≡ sentOf walk ⌝ }
 {
-    let mut room = [0u8; 14];
-    let asked = walk.ask(&mut room);
+    let mut bytes = [0u8; 14];
+    let asked = walk.ask(&mut bytes);
     let send = asked.send;
+    Sent {
+        send: send,
+        bytes: bytes,
+    }
+}
+
+// A number, or the most that it may be.
+pub(crate) fn at_most(most: usize, n: usize) -> usize
+    ensures { λ r. ⌜ r ≡ atMost most n ⌝ }
+{
+    if n <= most { n } else { most }
+}
+
+// A request reaches a card: the first n bytes.
+fn hear_request(card: Card, bytes: [u8; 14], n: usize) -> Turn
+    ensures { λ r. ⌜ r ≡ heardInventory card (take n bytes) ⌝ }
+{
+    let m = at_most(14, n);
+    card.hear_inventory(&bytes[..m])
+}
+
+// What is sent reaches a card.
+fn turn(card: Card, sent: Sent) -> Turn
+    ensures { λ r. ⌜ r ≡ turnBy sent card ⌝ }
+{
+    let send = sent.send;
     match send {
         Send::Nothing => Turn {
             card: card,
             reply: Reply::Silence,
         },
         Send::Mark => card.hear_mark(),
-        Send::Request(n) => card.hear_inventory(&room[..n]),
+        Send::Request(n) => {
+            let bytes = sent.bytes;
+            hear_request(card, bytes, n)
+        }
     }
 }
 
@@ -87,10 +119,10 @@ fn air_with(air: Air, card: Card, reply: Reply) -> Air
     }
 }
 
-fn listen(card: Card, walk: Walk, air: Air) -> Listened
-    ensures { λ r. ⌜ Listens walk card air r ⌝ }
+fn listen(card: Card, sent: Sent, air: Air) -> Listened
+    ensures { λ r. ⌜ Listens sent card air r ⌝ }
 {
-    let turn = turn(card, walk);
+    let turn = turn(card, sent);
     let next = turn.card;
     let reply = turn.reply;
     Listened {
@@ -103,6 +135,7 @@ fn listen(card: Card, walk: Walk, air: Air) -> Listened
 pub fn listen_row(row: &mut [Card], walk: Walk) -> Air
     ensures { λ r. ⌜ HearsRow walk (now (row .entry)) r (now (row .exit)) ⌝ }
 {
+    let sent = sending(walk);
     let mut air = Air {
         answers: 0,
         dsfid: 0,
@@ -110,7 +143,7 @@ pub fn listen_row(row: &mut [Card], walk: Walk) -> Air
     };
     let mut i = 0;
     while i < row.len() {
-        let heard = listen(row[i], walk, air);
+        let heard = listen(row[i], sent, air);
         row[i] = heard.card;
         air = heard.air;
         i += 1;

@@ -1,7 +1,7 @@
 -- The MIR of `slot`: the row is cut at m and lent, comes back and is made whole, and the walk hears what is in the air.
 -- Assumes `Given`, and that each function called meets its contract.
 use mathlib.Core.Path.{_≡_, refl, sym, ap, subst, _∙_}
-use Prim.Native.Nat.{ℕ, _+_, _-_, _≤_, _<_, _^_}
+use Prim.Native.Nat.{ℕ, _-_, _≤_, _<_, _^_}
 use native.Mathlib.Omega.{arith}
 use mathlib.Core.List.{[], _∷_, List, _++_}
 use lib.ListN.{length, take, length-append, length-drop}
@@ -19,7 +19,7 @@ use prog.Wp.{Heap, WpFn, Tables}
 use ghost.Atoms.{Atoms}
 use contract.Monad.{Fun, fact}
 use types.Kit.{Given, ‵, raw, some, later, _⊛_, _$_, _∵_, !, qed, by, move, drop, use0, use1, use2, use3, split, pick, rewrite, fsplit, fjoin, feqL, suffices, await, done}
-use types.Run.{look, init, forget, stop, fld, from, load, of-opd, addr, and-then, no-more, assigns, land, returns, free1, free0, enter, alloc1, alloc0, params1, pass1, pass0}
+use types.Run.{look, init, forget, stop, fld, from, load, lit, of-opd, addr, and-then, no-more, assigns, land, returns, free1, free0, enter, alloc1, alloc0, params1, pass1, pass0}
 use types.Part.{agg, whole, sub, look-in}
 use types.SemTy.{cells, Arr}
 use types.Tokens.{lft-new, lft-end}
@@ -30,7 +30,6 @@ use denote.Laws.{Is, shows}
 use denote.Plain.{uint-makes, uint-tells, uint-lawful}
 use denote.Builtin.{usize}
 use denote.Array.{Array, array-makes, array-lawful}
-use denote.Ref.{RefT}
 use denote.Slice.{sliceVal, MutSlice, Room}
 use denote.Lend.{Held, lends-slice, slice-back}
 use denote.Steps.{only, owned, peeks, heard, nothing}
@@ -46,8 +45,8 @@ use Rattle.walk.specs.declared.Walk.{Walk}
 use Rattle.row.specs.declared.Air.{Air}
 use Rattle.row.specs.declared.Desk.{Desk}
 use Rattle.row.specs.declared.Slotted.{Slotted}
-use Rattle.row.specs.Row.{deskAfter, HearsRow}
-use Rattle.row.specs.Play.{cardsIn, slotted}
+use Rattle.row.specs.Row.{atMost, HearsRow, deskAfter}
+use Rattle.row.specs.Play.{slotted}
 use Rattle.card.proofs.Card as C°
 use Rattle.card.proofs.Card.Laws as C′
 use Rattle.walk.proofs.Walk as W°
@@ -55,13 +54,14 @@ use Rattle.row.proofs.Air as A°
 use Rattle.row.proofs.Air.Laws as A′
 use Rattle.row.proofs.Desk as D°
 use Rattle.row.proofs.Desk.Laws as D′
-use Rattle.row.proofs.Slotted as S°
-use Rattle.row.proofs.Slotted.Laws as S′
+use Rattle.row.proofs.Slotted as T°
+use Rattle.row.proofs.Slotted.Laws as T′
 use Rattle.row.proofs.RowField.{row-spelled, row-as-field}
 use Rattle.row.proofs.LocalRow.{local-apart, local-whole}
-use Rattle.row.proofs.SlotMade.{cards-in-most, slot-made}
-use Rattle.row.proofs.play.cards_in as cards-in
-use Rattle.row.proofs.play.cards_in.Symbol.{name as #cards-in}
+use Rattle.row.proofs.SlotMade.{slot-made}
+use Rattle.row.proofs.AtMost.{at-most-below}
+use Rattle.row.proofs.row.at_most as at-most
+use Rattle.row.proofs.row.at_most.Symbol.{name as #at-most}
 use Rattle.row.proofs.row.listen_row as listen-row
 use Rattle.row.proofs.row.listen_row.Symbol.{name as #listen-row}
 use Rattle.row.proofs.play.hear as hear
@@ -69,7 +69,8 @@ use Rattle.row.proofs.play.hear.Symbol.{name as #hear}
 use Rattle.row.proofs.play.slot as f
 use Rattle.row.proofs.play.slot.Code as code
 use Rattle.row.proofs.Values.{cardVals, rowVals, walkVals, airVals, deskVals, slottedVals, tyAt}
-use Rattle.row.proofs.play.slot.Proof.Calls.{CardsIn, ListenRow, Hear, cards-in-of, hear-of, to-cards-in, to-hear, lent, to-listen-row, has-cards-in, has-hear, has-listen-row}
+use Rattle.row.proofs.Lending.{ListenRow, Hear, hear-of, to-hear, lent, to-listen-row, has-hear, has-listen-row}
+use Rattle.row.proofs.play.slot.Proof.Calls.{AtMost, at-most-of, to-at-most, has-at-most}
 
 abbrev pub stayed : Stays (f.ended .signature .params) (f.ended .kept)
 stayed = (stay-none (λ _. Array C°.the-row 100) yes, (stay-none (λ _. usize) yes, (stay-none (λ _. D°.the-row) yes, tt)))
@@ -83,26 +84,26 @@ module _ {M : Type 1} (𝓤 : URA M) (H : Heap 𝓤) (A : Atoms 𝓤) (W : Given
   abbrev pub Post : Val → SProp 𝓤
   Post = walkOf 𝓤 H A f.ended stayed (f.clauses 𝓤 H A mem′ run) .post ((tt, tt, tt, (row, (n, (d, tt))), (rowVals row, (vint w64 n ∷ [], (deskVals d, tt)))), tt)
 
-  exits : (s : Slotted) → Is S°.the-row s (slottedVals s) → s ≡ slotted row n d → ent 𝓤 (emp 𝓤) (Post (only (slottedVals s)))
+  exits : (s : Slotted) → Is T°.the-row s (slottedVals s) → s ≡ slotted row n d → ent 𝓤 (emp 𝓤) (Post (only (slottedVals s)))
   exits s fits e =
       qed W [] ∵ suffices ! _ (ends-at 𝓤 H A f.ended stayed (f.clauses 𝓤 H A mem′ run) W ((tt, tt, tt, (row, (n, (d, tt))), (rowVals row, (vint w64 n ∷ [], (deskVals d, tt)))), tt) (only (slottedVals s)) s (tt, (tt, (tt, tt))) (tt, (tt, (tt, tt)))) $ says ! e $
-      owned ! S°.the-row (Is S°.the-row) (LL.makes S°.the-type S′.the-plain 𝓤 H A) s _ fits $ nothing ! $ owned ! D°.the-row (Is D°.the-row) (LL.makes D°.the-type D′.the-plain 𝓤 H A) d _ d-fits $ fjoin ! $
+      owned ! T°.the-row (Is T°.the-row) (LL.makes T°.the-type T′.the-plain 𝓤 H A) s _ fits $ nothing ! $ owned ! D°.the-row (Is D°.the-row) (LL.makes D°.the-type D′.the-plain 𝓤 H A) d _ d-fits $ fjoin ! $
       owned ! usize (Is usize) (uint-makes 𝓤 H A W w64) n _ (refl, n-fits) $ fjoin ! $
       owned ! (Array C°.the-row 100) (Is (Array C°.the-row 100)) (array-makes 𝓤 H A W C°.the-row (LL.makes C°.the-type C′.the-plain 𝓤 H A) 100) row _ row-fits $ fjoin ! $ nothing ! $ done !
 
-  pub walk : (𝓣 : Tables 𝓤 H) → Triple 𝓤 (𝓣 .C #cards-in) (CardsIn 𝓤 H A mem′ run) → Triple 𝓤 (𝓣 .C #listen-row) (ListenRow 𝓤 H A mem′ run) → Triple 𝓤 (𝓣 .C #hear) (Hear 𝓤 H A mem′ run)
+  pub walk : (𝓣 : Tables 𝓤 H) → Triple 𝓤 (𝓣 .C #at-most) (AtMost 𝓤 H A mem′ run) → Triple 𝓤 (𝓣 .C #listen-row) (ListenRow 𝓤 H A mem′ run) → Triple 𝓤 (𝓣 .C #hear) (Hear 𝓤 H A mem′ run)
       → ent 𝓤 (onEntry 𝓤 H A f.signature tt tt (row, (n, (d, tt))) (rowVals row, (vint w64 n ∷ [], (deskVals d, tt)))) (WpFn 𝓤 H (𝓣 .C) (𝓣 .Λ) code.function (only (rowVals row) ∷ vint w64 n ∷ deskVals d) Post)
-  walk 𝓣 known-cards-in known-listen-row known-hear =
+  walk 𝓣 known-at-most known-listen-row known-hear =
       qed W (‵ ftrue ∷ ‵ (owns (Array C°.the-row 100 ∷ usize ∷ D°.the-row ∷ []) (row, (n, (d, tt))) (rowVals row, (vint w64 n ∷ [], (deskVals d, tt)))) ∷ []) ∵ enter ! (𝓣 .C) (𝓣 .Λ) code.function (only (rowVals row) ∷ vint w64 n ∷ deskVals d) _ $
       alloc1 ! (λ l₀. alloc1 ! (λ l₁. alloc1 ! (λ l₂. alloc1 ! (λ l₃. alloc1 ! (λ l₄. alloc1 ! (λ l₅. alloc1 ! (λ l₆. alloc1 ! (λ l₇. alloc1 ! (λ l₈. alloc1 ! (λ l₉. alloc1 ! (λ l₁₀. alloc0 ! $ params1 ! $
       pass1 ! (init ! 18 refl (array-lawful 𝓤 H A W C°.the-row (LL.lawful C°.the-type C′.the-laws 𝓤 H A W) 100 .typed row _ row-fits .0)) $ pass1 ! (init ! 16 refl (tt, record { fits = n-fits })) $ pass1 ! (init ! 14 refl (LL.lawful D°.the-type D′.the-laws 𝓤 H A W .typed d _ d-fits .0)) $ pass0 ! $
       move ! (22 ∷ []) $ drop ! $ move ! (22 ∷ []) $ drop ! $
       assigns ! (of-opd ! (load ! (from ! (stop !)) (look ! 18 refl))) (from ! (stop !)) (init ! 12 refl (array-lawful 𝓤 H A W C°.the-row (LL.lawful C°.the-type C′.the-laws 𝓤 H A W) 100 .typed row _ row-fits .0)) $
       -- how many cards hear
-      use0 W (raw (CardsIn 𝓤 H A mem′ run .pre (to-cards-in 𝓤 H A mem′ run n))) (has-cards-in 𝓤 H A mem′ run W n n-fits) $
-      calls-at ! (fmOf 𝓤 H (W .laws) 𝓣) (CardsIn 𝓤 H A mem′ run) known-cards-in (to-cards-in 𝓤 H A mem′ run n) (and-then ! (load ! (from ! (stop !)) (look ! 17 refl)) (no-more !)) (λ v.
-      use1 W (later (some (λ (r : ℕ). (‵ ftrue ⊛ ‵ (usize .own r (v ∷ []))) ⊛ raw (ensured 𝓤 H A cards-in.ended (cards-in.clauses 𝓤 H A mem′ run) tt (n, tt) tt r)))) (id⊢ 𝓤 _) $ await ! tt $ pick ! (λ m.
-      split ! $ move ! (1 ∷ []) $ use1 W (raw (fact 𝓤 (m ≡ cardsIn n))) (cards-in-of 𝓤 H A mem′ run n m) $ heard ! (m ≡ cardsIn n) (λ is-m. split ! $ drop ! $
+      use0 W (raw (AtMost 𝓤 H A mem′ run .pre (to-at-most 𝓤 H A mem′ run n))) (has-at-most 𝓤 H A mem′ run W n n-fits) $
+      calls-at ! (fmOf 𝓤 H (W .laws) 𝓣) (AtMost 𝓤 H A mem′ run) known-at-most (to-at-most 𝓤 H A mem′ run n) (and-then ! (lit ! tt) (and-then ! (load ! (from ! (stop !)) (look ! 17 refl)) (no-more !))) (λ v.
+      use1 W (later (some (λ (r : ℕ). (‵ ftrue ⊛ ‵ (usize .own r (v ∷ []))) ⊛ raw (ensured 𝓤 H A at-most.ended (at-most.clauses 𝓤 H A mem′ run) tt (100, (n, tt)) tt r)))) (id⊢ 𝓤 _) $ await ! tt $ pick ! (λ m.
+      split ! $ move ! (1 ∷ []) $ use1 W (raw (fact 𝓤 (m ≡ atMost 100 n))) (at-most-of 𝓤 H A mem′ run n m) $ heard ! (m ≡ atMost 100 n) (λ is-m. split ! $ drop ! $
       peeks ! usize (Is usize) (shows 𝓤 H A usize) m (v ∷ []) (λ m-is.
       land ! (from ! (stop !)) (init ! 11 refl (uint-lawful 𝓤 H A W w64 .typed m _ m-is .0)) $
       rewrite ! 11 (λ (z : Val). ‵ (fat fullShare (ty 5) l₅ 0 z)) (ap only (uint-tells w64 m _ m-is)) refl $ drop ! $
@@ -146,7 +147,7 @@ module _ {M : Type 1} (𝓤 : URA M) (H : Heap 𝓤) (A : Atoms 𝓤) (W : Given
       -- [_4; _10; …; _9; …; _8; …; _7; …; _6; …; _5; …; that _4 dies; _3; …; _2; …; _1; …; room for _0; …]
       assigns ! (of-opd ! (load ! (from ! (stop !)) (look ! 0 refl))) (from ! (stop !)) (init ! 1 refl (array-lawful 𝓤 H A W C°.the-row (LL.lawful C°.the-type C′.the-laws 𝓤 H A W) 100 .typed (zs .0 ++ ListN.drop m row) _ (subst (Is (Array C°.the-row 100) (zs .0 ++ ListN.drop m row)) (row-spelled (zs .0 ++ ListN.drop m row)) left-is) .0)) $
       assigns ! (agg ! (and-then ! (load ! (from ! (stop !)) (look ! 1 refl)) (and-then ! (load ! (from ! (stop !)) (look ! 7 refl)) (and-then ! (load ! (from ! (stop !)) (look ! 9 refl)) (no-more !))))) (from ! (stop !))
-      (init ! 20 refl (LL.lawful S°.the-type S′.the-laws 𝓤 H A W .typed (record { row = zs .0 ++ ListN.drop m row; desk = next; air = air }) _ (made-fits (zs .0 ++ ListN.drop m row) next air left-is (desk-fits next u next-is) (air-fits air v air-is)) .0)) $
+      (init ! 20 refl (LL.lawful T°.the-type T′.the-laws 𝓤 H A W .typed (record { row = zs .0 ++ ListN.drop m row; desk = next; air = air }) _ (made-fits (zs .0 ++ ListN.drop m row) next air left-is (desk-fits next u next-is) (air-fits air v air-is)) .0)) $
       returns ! (look ! 20 refl) $ forget ! 0 refl $ forget ! 1 refl $ forget ! 3 refl $ forget ! 5 refl $ forget ! 7 refl $ forget ! 9 refl $ forget ! 11 refl $ forget ! 14 refl $ forget ! 16 refl $ forget ! 18 refl $ forget ! 20 refl $
       move ! (20 ∷ 21 ∷ []) $ free1 ! $ move ! (18 ∷ 19 ∷ []) $ free1 ! $ move ! (16 ∷ 17 ∷ []) $ free1 ! $ move ! (14 ∷ 15 ∷ []) $ free1 ! $ move ! (0 ∷ 13 ∷ []) $ free1 ! $ move ! (10 ∷ 11 ∷ []) $ free1 ! $
       move ! (8 ∷ 9 ∷ []) $ free1 ! $ move ! (6 ∷ 7 ∷ []) $ free1 ! $ move ! (4 ∷ 5 ∷ []) $ free1 ! $ move ! (2 ∷ 3 ∷ []) $ free1 ! $ free1 ! $ free0 ! $
@@ -155,16 +156,16 @@ module _ {M : Type 1} (𝓤 : URA M) (H : Heap 𝓤) (A : Atoms 𝓤) (W : Given
       w : Walk
       w = d .walk
 
-      enough : (m : ℕ) → m ≡ cardsIn n → m ≤ length row
-      enough m e = let most : cardsIn n ≤ 100 = cards-in-most n in omega (arith, e, most, row-long)
+      enough : (m : ℕ) → m ≡ atMost 100 n → m ≤ length row
+      enough m e = omega (arith, at-most-below 100 n m e, row-long)
 
-      long : (m : ℕ) → m ≡ cardsIn n → length (take m row) ≡ m
+      long : (m : ℕ) → m ≡ atMost 100 n → length (take m row) ≡ m
       long m e = length-take-le m row (enough m e)
 
-      room : (m : ℕ) → m ≡ cardsIn n → Room C°.the-row (length (take m row))
+      room : (m : ℕ) → m ≡ atMost 100 n → Room C°.the-row (length (take m row))
       room m e = let is : length (take m row) ≡ m = long m e in let few : m ≤ length row = enough m e in (omega (arith, is, few, row-long), omega (arith, is, few, row-long))
 
-      all-long : (m : ℕ) (zs : List Card) → m ≡ cardsIn n → length zs ≡ m → length (zs ++ ListN.drop m row) ≡ 100
+      all-long : (m : ℕ) (zs : List Card) → m ≡ atMost 100 n → length zs ≡ m → length (zs ++ ListN.drop m row) ≡ 100
       all-long m zs e l =
           let less : length (ListN.drop m row) ≡ length row - m = length-drop m row in
           let few : m ≤ length row = enough m e in
@@ -180,5 +181,5 @@ module _ {M : Type 1} (𝓤 : URA M) (H : Heap 𝓤) (A : Atoms 𝓤) (W : Given
       desk-fits next u is = subst (Is D°.the-row next) (LL.tells D°.the-type D′.the-laws next _ is) is
 
       made-fits : (left : List Card) (next : Desk) (air : Air) → Is (Array C°.the-row 100) left (rowVals left) → Is D°.the-row next (deskVals next) → Is A°.the-row air (airVals air)
-          → Is S°.the-row (record { row = left; desk = next; air = air }) (slottedVals (record { row = left; desk = next; air = air }))
-      made-fits left next air p q r = LL.owes S°.the-type S′.the-laws (record { row = left; desk = next; air = air }) (row-as-field 100 left p, (q, (r, tt)))
+          → Is T°.the-row (record { row = left; desk = next; air = air }) (slottedVals (record { row = left; desk = next; air = air }))
+      made-fits left next air p q r = LL.owes T°.the-type T′.the-laws (record { row = left; desk = next; air = air }) (row-as-field 100 left p, (q, (r, tt)))
