@@ -1,4 +1,4 @@
-pub mod Faults
+pub mod Verdicts
 pub mod Modes
 pub mod Rules
 pub mod Unique

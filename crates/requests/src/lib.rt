@@ -3,9 +3,10 @@ ghost use mathlib.Core.Path.{_≡_};
 ghost use Rattle.requests.specs.Frame.{decided};
 
 mod request;
+mod verdict;
 
 use crate::request::request;
-use crate::request::silence;
+use crate::verdict::carry;
 use card::Card;
 use card::Reply;
 use frames::Flags;
@@ -41,14 +42,5 @@ pub fn decide(card: Card, locks: &[u8], frame: &[u8]) -> Deed
         };
     }
     let clear = card.cleared();
-    if !frames::is_sound(frame) {
-        return silence(clear);
-    }
-    if f.b4 {
-        return silence(clear);
-    }
-    if f.b8 {
-        return silence(clear);
-    }
-    request(clear, locks, f, frame)
+    carry(clear, request(clear, locks, f, frame))
 }

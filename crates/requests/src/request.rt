@@ -1,165 +1,57 @@
 // Every other request: to whom it goes, its faults in order, and the table of commands.
 ghost use mathlib.Core.Path.{_≡_};
-ghost use mathlib.Core.Bool.{cond, not, _&&_};
+ghost use mathlib.Core.Bool.{cond, not, _&&_, _||_};
+ghost use lib.Dec.{ltb, eqb};
 ghost use Rattle.card.specs.Record.{isQuiet, isSelected};
 ghost use Prim.Native.Nat.{_+_, _≤_};
-ghost use Rattle.requests.specs.Request.{deed, silent, fault, done, failed, isLocked, reads, writes, locks-block, writes-afi, writes-dsfid, locks-afi, locks-dsfid, tells-locks, commanded, isListed, bodyAsked, refusesOption, holdsAnswer, bodyLength, judged, quieted, sorted, passedBy, addressed, unaddressed, requested};
-use crate::Deed;
+ghost use Rattle.requests.specs.Request.{deed, fault, done, failed, isLocked, commanded, isListed, bodyAsked, holdsAnswer, bodyLength, sorted};
+ghost use Rattle.requests.specs.Verdict.{changed, made, turned, faultOf, toWhom, bodyPlace, heeded, onBlocks};
 use crate::Effect;
+use crate::verdict::Change;
+use crate::verdict::Verdict;
+use crate::verdict::answer;
+use crate::verdict::fail;
+use crate::verdict::succeed;
 use card::Card;
-use card::Held;
 use card::Mode;
 use card::Reply;
 use frames::Flags;
 use frames::byte_at;
 
-pub(crate) fn silence(card: Card) -> Deed
-    ensures { λ r. ⌜ r ≡ silent card ⌝ }
+// A reply on n + 1 blocks, if they are the card's.
+fn tell(card: Card, first: u8, n: u8, reply: Reply) -> Verdict
+    ensures { λ r. ⌜ made card r ≡ cond (ltb (first + n) (card .blocks)) (deed card Effect.Leave reply) (fault card 0x10) ⌝ }
 {
-    Deed {
-        card: card,
-        effect: Effect::Leave,
-        reply: Reply::Silence,
-    }
-}
-
-fn answer(card: Card, reply: Reply) -> Deed
-    ensures { λ r. ⌜ r ≡ deed card Effect.Leave reply ⌝ }
-{
-    Deed {
-        card: card,
-        effect: Effect::Leave,
-        reply: reply,
-    }
-}
-
-// Success, at once or held.
-fn succeed(hold: bool, card: Card, effect: Effect) -> Deed
-    ensures { λ r. ⌜ r ≡ done hold card effect ⌝ }
-{
-    if hold {
-        Deed {
-            card: card.holding(Held::Success),
-            effect: effect,
-            reply: Reply::Silence,
-        }
+    if (first as u32) + (n as u32) < card.blocks {
+        answer(reply)
     } else {
-        Deed {
-            card: card,
-            effect: effect,
-            reply: Reply::Done,
-        }
+        fail(false, 0x10)
     }
 }
 
-// An error code, at once or held.
-fn fail(hold: bool, card: Card, code: u8) -> Deed
-    ensures { λ r. ⌜ r ≡ failed hold card code ⌝ }
+// An effect on a block, if it is the card's and open; the code is for a locked one.
+fn store(card: Card, locks: &[u8], option: bool, block: u8, code: u8, effect: Effect) -> Verdict
+    ensures { λ r. ⌜ made card r ≡ cond (ltb block (card .blocks)) (cond (isLocked (now (locks .entry)) block) (failed option card code) (done option card effect)) (failed option card 0x10) ⌝ }
 {
-    if hold {
-        silence(card.holding(Held::Code(code)))
-    } else {
-        answer(card, Reply::Error(code))
-    }
-}
-
-fn is_locked(locks: &[u8], block: u8) -> bool
-    ensures { λ r. ⌜ r ≡ isLocked (now (locks .entry)) block ⌝ }
-{
-    byte_at(locks, block as usize) != 0
-}
-
-fn read(card: Card, option: bool, first: u8, n: u8) -> Deed
-    ensures { λ r. ⌜ r ≡ reads card option first n ⌝ }
-{
-    let from = first as u32;
-    let more = n as u32;
-    if from + more < card.blocks {
-        answer(card, Reply::Blocks(from, more + 1, option))
-    } else {
-        answer(card, Reply::Error(0x10))
-    }
-}
-
-fn write(card: Card, locks: &[u8], option: bool, block: u8, place: u32) -> Deed
-    ensures { λ r. ⌜ r ≡ writes card (now (locks .entry)) option block place ⌝ }
-{
-    let at = block as u32;
-    if at < card.blocks {
-        if is_locked(locks, block) {
-            fail(option, card, 0x12)
+    if (block as u32) < card.blocks {
+        if byte_at(locks, block as usize) != 0 {
+            fail(option, code)
         } else {
-            succeed(option, card, Effect::Write(at, place))
+            succeed(option, Change::Nothing, effect)
         }
     } else {
-        fail(option, card, 0x10)
+        fail(option, 0x10)
     }
 }
 
-fn lock(card: Card, locks: &[u8], option: bool, block: u8) -> Deed
-    ensures { λ r. ⌜ r ≡ locks-block card (now (locks .entry)) option block ⌝ }
+// AFI or DSFID changed, if it is not locked; the code is for a locked one.
+fn alter(card: Card, locked: bool, option: bool, code: u8, change: Change) -> Verdict
+    ensures { λ r. ⌜ made card r ≡ cond locked (failed option card code) (done option (changed card change) Effect.Leave) ⌝ }
 {
-    let at = block as u32;
-    if at < card.blocks {
-        if is_locked(locks, block) {
-            fail(option, card, 0x11)
-        } else {
-            succeed(option, card, Effect::Lock(at))
-        }
+    if locked {
+        fail(option, code)
     } else {
-        fail(option, card, 0x10)
-    }
-}
-
-fn write_afi(card: Card, option: bool, value: u8) -> Deed
-    ensures { λ r. ⌜ r ≡ writes-afi card option value ⌝ }
-{
-    if card.afi_locked {
-        fail(option, card, 0x12)
-    } else {
-        succeed(option, card.with_afi(value, false), Effect::Leave)
-    }
-}
-
-fn write_dsfid(card: Card, option: bool, value: u8) -> Deed
-    ensures { λ r. ⌜ r ≡ writes-dsfid card option value ⌝ }
-{
-    if card.dsfid_locked {
-        fail(option, card, 0x12)
-    } else {
-        succeed(option, card.with_dsfid(value, false), Effect::Leave)
-    }
-}
-
-fn lock_afi(card: Card, option: bool) -> Deed
-    ensures { λ r. ⌜ r ≡ locks-afi card option ⌝ }
-{
-    if card.afi_locked {
-        fail(option, card, 0x11)
-    } else {
-        succeed(option, card.with_afi(card.afi, true), Effect::Leave)
-    }
-}
-
-fn lock_dsfid(card: Card, option: bool) -> Deed
-    ensures { λ r. ⌜ r ≡ locks-dsfid card option ⌝ }
-{
-    if card.dsfid_locked {
-        fail(option, card, 0x11)
-    } else {
-        succeed(option, card.with_dsfid(card.dsfid, true), Effect::Leave)
-    }
-}
-
-fn status(card: Card, first: u8, n: u8) -> Deed
-    ensures { λ r. ⌜ r ≡ tells-locks card first n ⌝ }
-{
-    let from = first as u32;
-    let more = n as u32;
-    if from + more < card.blocks {
-        answer(card, Reply::Status(from, more + 1))
-    } else {
-        answer(card, Reply::Error(0x10))
+        succeed(option, change, Effect::Leave)
     }
 }
 
@@ -175,19 +67,25 @@ fn is_listed(command: u8) -> bool
     command != 0x24
 }
 
+fn is_one_of(x: u8, a: u8, b: u8, c: u8, d: u8) -> bool
+    ensures { λ r. ⌜ r ≡ (eqb x a || (eqb x b || (eqb x c || eqb x d))) ⌝ }
+{
+    if x == a {
+        return true;
+    }
+    if x == b {
+        return true;
+    }
+    if x == c {
+        return true;
+    }
+    x == d
+}
+
 fn body_asked(command: u8, size: u32) -> usize
     ensures { λ r. ⌜ r ≡ bodyAsked command size ⌝ }
 {
-    if command == 0x20 {
-        return 1;
-    }
-    if command == 0x22 {
-        return 1;
-    }
-    if command == 0x27 {
-        return 1;
-    }
-    if command == 0x29 {
+    if is_one_of(command, 0x20, 0x22, 0x27, 0x29) {
         return 1;
     }
     if command == 0x21 {
@@ -199,24 +97,16 @@ fn body_asked(command: u8, size: u32) -> usize
     if command == 0x2c { 2 } else { 0 }
 }
 
-fn refuses_option(command: u8) -> bool
-    ensures { λ r. ⌜ r ≡ refusesOption command ⌝ }
+// Whether a fault is held: a wrong body length alone, with Option, where the command holds its answer.
+fn holds(code: u8, option: bool, command: u8) -> bool
+    ensures { λ r. ⌜ r ≡ (eqb code 0x02 && (option && holdsAnswer command)) ⌝ }
 {
-    if command == 0x25 {
-        return true;
+    if code != 0x02 {
+        return false;
     }
-    if command == 0x26 {
-        return true;
+    if !option {
+        return false;
     }
-    if command == 0x2b {
-        return true;
-    }
-    command == 0x2c
-}
-
-fn holds_answer(command: u8) -> bool
-    ensures { λ r. ⌜ r ≡ holdsAnswer command ⌝ }
-{
     if command == 0x21 {
         return true;
     }
@@ -237,40 +127,96 @@ fn body_length(frame: &[u8], at: usize) -> usize
     if at + 2 <= n { n - (at + 2) } else { 0 }
 }
 
-pub(crate) fn both(a: bool, b: bool) -> bool
+fn both(a: bool, b: bool) -> bool
     ensures { λ r. ⌜ r ≡ (a && b) ⌝ }
 {
     if a { b } else { false }
 }
 
-// The table, command by command. The body stands at a place of the frame.
-fn perform(card: Card, locks: &[u8], option: bool, frame: &[u8], at: usize, command: u8) -> Deed
+// The commands on blocks. The body stands at a place of the frame.
+fn serve_blocks(
+    card: Card,
+    locks: &[u8],
+    option: bool,
+    frame: &[u8],
+    at: usize,
+    command: u8,
+) -> Verdict
     requires { ⌜ at ≤ 10 ⌝ }
-    ensures { λ r. ⌜ r ≡ commanded card (now (locks .entry)) option (now (frame .entry)) at command ⌝ }
+    ensures { λ r. ⌜ made card r ≡ onBlocks card (now (locks .entry)) option (now (frame .entry)) at command ⌝ }
 {
     let first = byte_at(frame, at);
     let second = byte_at(frame, at + 1);
+    let block = first as u32;
+    let count = (second as u32) + 1;
     let place = (at + 1) as u32;
     match command {
-        0x20 => read(card, option, first, 0),
-        0x21 => write(card, locks, option, first, place),
-        0x22 => lock(card, locks, option, first),
-        0x23 => read(card, option, first, second),
-        0x25 => answer(card.in_mode(Mode::Selected), Reply::Done),
-        0x26 => answer(card.in_mode(Mode::Ready), Reply::Done),
-        0x27 => write_afi(card, option, first),
-        0x28 => lock_afi(card, option),
-        0x29 => write_dsfid(card, option, first),
-        0x2a => lock_dsfid(card, option),
-        0x2b => answer(card, Reply::Information),
-        _ => status(card, first, second),
+        0x20 => tell(card, first, 0, Reply::Blocks(block, 1, option)),
+        0x21 => store(
+            card,
+            locks,
+            option,
+            first,
+            0x12,
+            Effect::Write(block, place),
+        ),
+        0x22 => store(card, locks, option, first, 0x11, Effect::Lock(block)),
+        0x23 => tell(card, first, second, Reply::Blocks(block, count, option)),
+        _ => tell(card, first, second, Reply::Status(block, count)),
     }
 }
 
-// Of two faults, a wrong body length and a refused Option, the first: its code, or 00 for none.
-fn first_fault(wrong: bool, refused: bool) -> u8
-    ensures { λ r. ⌜ r ≡ cond wrong 0x02 (cond refused 0x03 0x00) ⌝ }
+// The table, command by command.
+fn perform(card: Card, locks: &[u8], option: bool, frame: &[u8], at: usize, command: u8) -> Verdict
+    requires { ⌜ at ≤ 10 ⌝ }
+    ensures { λ r. ⌜ made card r ≡ commanded card (now (locks .entry)) option (now (frame .entry)) at command ⌝ }
 {
+    let value = byte_at(frame, at);
+    match command {
+        0x25 => succeed(false, Change::InMode(Mode::Selected), Effect::Leave),
+        0x26 => succeed(false, Change::InMode(Mode::Ready), Effect::Leave),
+        0x27 => alter(
+            card,
+            card.afi_locked,
+            option,
+            0x12,
+            Change::Afi(value, false),
+        ),
+        0x28 => alter(
+            card,
+            card.afi_locked,
+            option,
+            0x11,
+            Change::Afi(card.afi, true),
+        ),
+        0x29 => alter(
+            card,
+            card.dsfid_locked,
+            option,
+            0x12,
+            Change::Dsfid(value, false),
+        ),
+        0x2a => alter(
+            card,
+            card.dsfid_locked,
+            option,
+            0x11,
+            Change::Dsfid(card.dsfid, true),
+        ),
+        0x2b => answer(Reply::Information),
+        _ => serve_blocks(card, locks, option, frame, at, command),
+    }
+}
+
+// The code of the first fault that comes before the table, or 00 for none.
+fn first_fault(option: bool, command: u8, body: usize, size: u32) -> u8
+    ensures { λ r. ⌜ r ≡ faultOf option command body size ⌝ }
+{
+    if !is_listed(command) {
+        return 0x01;
+    }
+    let wrong = body != body_asked(command, size);
+    let refused = both(option, is_one_of(command, 0x25, 0x26, 0x2b, 0x2c));
     if wrong {
         return 0x02;
     }
@@ -280,82 +226,40 @@ fn first_fault(wrong: bool, refused: bool) -> u8
     0x00
 }
 
-// The faults that come before the table, in their order.
-fn judge(card: Card, locks: &[u8], f: Flags, frame: &[u8], at: usize, command: u8) -> Deed
-    requires { ⌜ at ≤ 10 ⌝ }
-    ensures { λ r. ⌜ r ≡ judged card (now (locks .entry)) f (now (frame .entry)) at command ⌝ }
+// Silence, in another mode if the test holds.
+fn turn_if(test: bool, mode: Mode) -> Verdict
+    ensures { λ r. ⌜ r ≡ turned test mode ⌝ }
 {
-    if !is_listed(command) {
-        return answer(card, Reply::Error(0x01));
-    }
-    let wrong = body_length(frame, at) != body_asked(command, card.size);
-    let code = first_fault(wrong, both(f.b7, refuses_option(command)));
-    if code == 0x02 {
-        return fail(both(f.b7, holds_answer(command)), card, 0x02);
-    }
-    if code == 0x03 {
-        return answer(card, Reply::Error(0x03));
-    }
-    perform(card, locks, f.b7, frame, at, command)
-}
-
-fn quiet(card: Card, f: Flags, frame: &[u8], at: usize) -> Deed
-    requires { ⌜ at ≤ 10 ⌝ }
-    ensures { λ r. ⌜ r ≡ quieted card f (now (frame .entry)) at ⌝ }
-{
-    if both(f.b6, body_length(frame, at) == 0) {
-        silence(card.in_mode(Mode::Quiet))
+    if test {
+        Verdict {
+            change: Change::InMode(mode),
+            effect: Effect::Leave,
+            reply: Reply::Silence,
+            hold: false,
+        }
     } else {
-        silence(card)
+        answer(Reply::Silence)
     }
 }
 
-fn sort(card: Card, locks: &[u8], f: Flags, frame: &[u8], at: usize) -> Deed
+// 02 and an unaddressed 25, then the faults, then the table.
+fn sort(card: Card, locks: &[u8], f: Flags, frame: &[u8], at: usize) -> Verdict
     requires { ⌜ at ≤ 10 ⌝ }
-    ensures { λ r. ⌜ r ≡ sorted card (now (locks .entry)) f (now (frame .entry)) at ⌝ }
+    ensures { λ r. ⌜ made card r ≡ sorted card (now (locks .entry)) f (now (frame .entry)) at ⌝ }
 {
     let command = byte_at(frame, 1);
+    let body = body_length(frame, at);
     if command == 0x02 {
-        return quiet(card, f, frame, at);
+        return turn_if(both(f.b6, body == 0), Mode::Quiet);
     }
     if both(command == 0x25, !f.b6) {
-        return silence(card);
+        return answer(Reply::Silence);
     }
-    judge(card, locks, f, frame, at, command)
-}
-
-fn is_selected(mode: Mode) -> bool
-    ensures { λ r. ⌜ r ≡ isSelected mode ⌝ }
-{
-    match mode {
-        Mode::Ready => false,
-        Mode::Quiet => false,
-        Mode::Selected => true,
+    let code = first_fault(f.b7, command, body, card.size);
+    if code == 0x00 {
+        return perform(card, locks, f.b7, frame, at, command);
     }
-}
-
-fn pass_by(card: Card, command: u8) -> Deed
-    ensures { λ r. ⌜ r ≡ passedBy card command ⌝ }
-{
-    let mode = card.mode;
-    if both(command == 0x25, is_selected(mode)) {
-        silence(card.in_mode(Mode::Ready))
-    } else {
-        silence(card)
-    }
-}
-
-fn by_address(card: Card, locks: &[u8], f: Flags, frame: &[u8]) -> Deed
-    ensures { λ r. ⌜ r ≡ addressed card (now (locks .entry)) f (now (frame .entry)) ⌝ }
-{
-    if frame.len() < 12 {
-        return silence(card);
-    }
-    if frames::field(frame, 2, 8) == card.uid {
-        sort(card, locks, f, frame, 10)
-    } else {
-        pass_by(card, byte_at(frame, 1))
-    }
+    fail(holds(code, f.b7, command), code)
 }
 
 // Whether a request with no address goes on: with Select for a Selected card alone, else for all but a Quiet one.
@@ -369,27 +273,69 @@ fn goes_on(select: bool, mode: Mode) -> bool
     }
 }
 
-fn by_mode(card: Card, locks: &[u8], f: Flags, frame: &[u8]) -> Deed
-    ensures { λ r. ⌜ r ≡ unaddressed card (now (locks .entry)) f (now (frame .entry)) ⌝ }
-{
-    let mode = card.mode;
-    if goes_on(f.b5, mode) {
-        sort(card, locks, f, frame, 2)
-    } else {
-        silence(card)
-    }
+// For whom a frame is.
+enum Address {
+    Nobody,
+    Another,
+    Own,
 }
 
-pub(crate) fn request(card: Card, locks: &[u8], f: Flags, frame: &[u8]) -> Deed
-    ensures { λ r. ⌜ r ≡ requested card (now (locks .entry)) f (now (frame .entry)) ⌝ }
+fn choose(test: bool, first: Address, second: Address) -> Address
+    ensures { λ r. ⌜ r ≡ cond test first second ⌝ }
 {
+    if test { first } else { second }
+}
+
+fn address_of(card: Card, f: Flags, frame: &[u8]) -> Address
+    ensures { λ r. ⌜ r ≡ toWhom card f (now (frame .entry)) ⌝ }
+{
+    let mode = card.mode;
+    if !frames::is_sound(frame) {
+        return Address::Nobody;
+    }
+    if f.b4 {
+        return Address::Nobody;
+    }
+    if f.b8 {
+        return Address::Nobody;
+    }
     if f.b6 {
         if f.b5 {
-            silence(card)
-        } else {
-            by_address(card, locks, f, frame)
+            return Address::Nobody;
         }
-    } else {
-        by_mode(card, locks, f, frame)
+        if frame.len() < 12 {
+            return Address::Nobody;
+        }
+        return choose(
+            frames::field(frame, 2, 8) == card.uid,
+            Address::Own,
+            Address::Another,
+        );
+    }
+    choose(goes_on(f.b5, mode), Address::Own, Address::Nobody)
+}
+
+// Where the body of a request stands in the frame.
+fn body_place(f: Flags) -> usize
+    ensures { λ r. ⌜ r ≡ bodyPlace f ⌝ }
+{
+    if f.b6 { 10 } else { 2 }
+}
+
+// A frame that is no inventory request.
+pub(crate) fn request(card: Card, locks: &[u8], f: Flags, frame: &[u8]) -> Verdict
+    ensures { λ r. ⌜ made card r ≡ heeded card (now (locks .entry)) f (now (frame .entry)) ⌝ }
+{
+    let mode = card.mode;
+    let whom = address_of(card, f, frame);
+    match whom {
+        Address::Nobody => answer(Reply::Silence),
+        Address::Another => {
+            turn_if(
+                both(byte_at(frame, 1) == 0x25, goes_on(true, mode)),
+                Mode::Ready,
+            )
+        }
+        Address::Own => sort(card, locks, f, frame, body_place(f)),
     }
 }

@@ -1,31 +1,92 @@
--- `requests::request::request` meets its contract: by the two flags. Assumes nothing.
+-- `requests::request::request` meets its contract: by whom the frame is for (Verdicts.antt). Assumes nothing.
 use borrow.Author.Needs.{needs}
-use Rattle.requests.specs.Request.{requested}
+use Rattle.requests.proofs.Verdicts.{made-answer, made-turned, answered, heeded-by, place-most}
+use Rattle.requests.specs.Request.{passedBy}
 use Rattle.requests.proofs.request.request.Statement.{statement}
 use Rattle.requests.proofs.request.request.Tie as tie
 
-silence-requires : tie.Need-silence-requires
-silence-requires c κs = search needs
+address-of-requires : tie.Need-address-of-requires
+address-of-requires c κs = search needs
 
-by-address-requires : tie.Need-by-address-requires
-by-address-requires c κs = search needs
+enum-told : tie.Need-enum-told
+enum-told c = search needs
 
-by-mode-requires : tie.Need-by-mode-requires
-by-mode-requires c κs = search needs
+answer-requires : tie.Need-answer-requires
+answer-requires c κs = search needs
+
+enum-told-2 : tie.Need-enum-told-2
+enum-told-2 c = search needs
+
+byte-at-requires : tie.Need-byte-at-requires
+byte-at-requires c κs = search needs
+
+goes-on-requires : tie.Need-goes-on-requires
+goes-on-requires c κs = search needs
+
+both-requires : tie.Need-both-requires
+both-requires c κs = search needs
+
+turn-if-requires : tie.Need-turn-if-requires
+turn-if-requires c κs = search needs
+
+enum-told-3 : tie.Need-enum-told-3
+enum-told-3 c = search needs
+
+body-place-requires : tie.Need-body-place-requires
+body-place-requires c κs = search needs
+
+sort-requires : tie.Need-sort-requires
+sort-requires c κs = rw (c .body-place .ensures) (place-most (c .before .before .before .before .before .before .args .f))
 
 returns : tie.Need-returns
-unfolding requested
-returns c = rw (c .silence .ensures, c .before .before .if1 .taken, c .before .if2 .taken)
+unfolding answered
+returns c =
+    rw (
+      heeded-by,
+      ← (c .before .before .before .address-of .ensures),
+      c .before .enum-told .given .1,
+      c .answer .ensures,
+    ) (made-answer (c .before .before .before .before .before .before .args .card) _)
 
 returns-2 : tie.Need-returns-2
-unfolding requested
-returns-2 c = rw (c .by-address .ensures, c .before .before .if1 .taken, c .before .if2 .left)
+unfolding answered passedBy
+returns-2 c =
+    let both = c .before .both in
+    rw (
+      heeded-by,
+      ← (c .before .before .before .before .before .before .address-of .ensures),
+      c .before .before .before .before .enum-told2 .given .1,
+      ← (c .before .before .before .byte-at .ensures),
+      ← (c .before .before .goes-on .ensures),
+      ← (both .ensures),
+      c .turn-if .ensures,
+    ) (made-turned (c .before .before .before .before .before .before .before .before .before .args .card) (both .result) _)
 
 returns-3 : tie.Need-returns-3
-unfolding requested
-returns-3 c = rw (c .by-mode .ensures, c .before .if1 .left)
+unfolding answered
+returns-3 c =
+    rw (
+      heeded-by,
+      ← (c .before .before .before .before .address-of .ensures),
+      c .before .before .enum-told3 .given .1,
+      ← (c .before .body-place .ensures),
+    ) (c .sort .ensures)
 
 pub request-spec : {M : Type 1} → statement M
 request-spec =
     tie.close
-    (tie.spec silence-requires by-address-requires by-mode-requires returns returns-2 returns-3)
+    (tie.spec
+    address-of-requires
+    enum-told
+    answer-requires
+    enum-told-2
+    byte-at-requires
+    goes-on-requires
+    both-requires
+    turn-if-requires
+    enum-told-3
+    body-place-requires
+    sort-requires
+    returns
+    returns-2
+    returns-3)
