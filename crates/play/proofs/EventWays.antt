@@ -1,17 +1,17 @@
 -- The ways out of the three events: refused, or served; and of a reply: silence, or bytes with their check. By the one test of each.
 -- Assumes nothing.
-use mathlib.Core.Path.{_≡_, refl, sym, ap, _∙_}
-use Prim.Native.Nat.{ℕ, _+_, _≤_, _<_}
-use mathlib.Core.Bool.{true}
+use mathlib.Core.Path.{_≡_, refl, _∙_}
+use Prim.Native.Nat.{ℕ, _+_}
+use mathlib.Core.Bool.{true, cond}
 use native.Mathlib.Omega.{arith}
 use mathlib.Core.List.{List, [], _∷_}
-use borrow.Author.Tests.{eq-eqb, ne-eqb, le-leb}
-use lib.Dec.{leb}
-use lib.IntN.{ℤ}
-use lib.ListN.{length, take}
+use borrow.Author.Tests.{eq-eqb, ne-eqb}
+use lib.Dec.{eqb}
+use lib.ListN.{length}
 use Rattle.lent.specs.Lent.{over}
-use Rattle.lent.proofs.Over.{over-none, length-over, over-over, take-over}
-use Rattle.crc.specs.Check.{checkBytes, sealed}
+use Rattle.lent.specs.Puts.{Puts}
+use Rattle.lent.proofs.Over.{over-none, over-over, take-over}
+use Rattle.crc.specs.Check.{sealed}
 use Rattle.card.specs.declared.Card.{Card}
 use Rattle.card.specs.declared.Reply.{Reply}
 use Rattle.card.specs.declared.Reply.the-variants.{Silence}
@@ -19,13 +19,14 @@ use Rattle.requests.specs.declared.Deed.{Deed}
 use Rattle.card.specs.declared.Turn.{Turn}
 use Rattle.card.specs.Record.{poweredOff}
 use Rattle.card.specs.Mark.{marked}
+use Rattle.play.proofs.Brief.{brief-bytes}
 use Rattle.play.proofs.Room.{silence-length}
-use Rattle.frames.specs.Frame.{Seals, sealLeaves}
 use Rattle.play.specs.declared.Served.{Served}
 use Rattle.play.specs.Effects.{memoryAfter, locksAfter}
 use Rattle.play.specs.Refusal.{refusal}
+use Rattle.play.specs.Fits.{isBrief}
 use Rattle.play.specs.Answer.{replyBytes}
-use Rattle.play.specs.Events.{lengthTold, answered, Outcome, replied, unserved, event, carriedOut, Leaves, Replies}
+use Rattle.play.specs.Events.{lengthTold, answered, Outcome, replied, unserved, event, carriedOut, Finishes, Leaves}
 
 module _ (c : Card) (memory locks found : List ℕ) (served : Outcome) where
   pub event-refused : (n : ℕ) → n ≡ refusal c (length memory) locks (length found) → (n ≡ 0 → ⊥)
@@ -66,59 +67,37 @@ module _ (card : Card) (memory locks found : List ℕ) (served : Outcome) (n : �
   pub leaves-served : (r : Served) (m l a : List ℕ) → n ≡ 0 → Leaves served r m l a → Leaves (event card memory locks found served) r m l a
   leaves-served r m l a h p = rw (event-served card memory locks found served n told h) p
 
--- a reply over memory and locks that now are m and l
-pub leaves-reply : (c : Card) (m l found : List ℕ) (reply : Reply) (r : Served) (a : List ℕ) → Replies (replied c m l reply found) r a
-    → Leaves (replied c m l reply found) r m l a
-unfolding replied
-leaves-reply c m l found reply r a p =
-    record { card = p .card; number = p .number; told = p .told; memory-left = refl; locks-left = refl; answer-left = p .answer-left }
-
--- a deed that was carried out
-pub leaves-deed : (d : Deed) (frame memory locks found : List ℕ) (r : Served) (m l a : List ℕ) → m ≡ memoryAfter (d .card) frame memory (d .effect)
-    → l ≡ locksAfter locks (d .effect) → Replies (replied (d .card) m l (d .reply) found) r a → Leaves (carriedOut d frame memory locks found) r m l a
-unfolding carriedOut
-leaves-deed d frame memory locks found r m l a p q h = rw (← p, ← q) (leaves-reply (d .card) m l found (d .reply) r a h)
-
 -- ---- a reply, silent or with its check
 
-over-empty : (s e : List ℕ) → length s ≡ 0 → over s e ≡ e
-over-empty [] e h = over-none e
-over-empty (x ∷ s) e h = absurd (omega arith)
+-- a body that was put, and what finishing it leaves
+empty-stays : (body found other : List ℕ) → cond (eqb (length body) 0) (over body found) other ≡ cond (eqb (length body) 0) found other
+empty-stays [] found other = over-none found
+empty-stays (b ∷ body) found other = rw (ne-eqb (length (b ∷ body)) 0 (omega arith))
 
-module _ (c : Card) (memory locks found : List ℕ) (reply : Reply) where
-  pub replies-silence : (n : ℕ) (a : List ℕ) → n ≡ length (replyBytes c memory locks reply) → n ≡ 0 → a ≡ over (replyBytes c memory locks reply) found
-      → Replies (replied c memory locks reply found) (record { card = c; number = 0; length = 0 }) a
-  unfolding replied
-  replies-silence n a e z f =
-      let none : length (replyBytes c memory locks reply) ≡ 0 = sym e ∙ z in
-      record {
-        card = refl;
-        number = refl;
-        told = told-silence (replyBytes c memory locks reply) found none;
-        answer-left = f ∙ over-empty (replyBytes c memory locks reply) found none ∙ answered-silence (replyBytes c memory locks reply) found none;
-      }
+finished : (body found : List ℕ) {n : ℕ} {e : List ℕ} {r : ℕ} {left : List ℕ} → Puts body found n e → Finishes n e r left
+    → (r ≡ lengthTold body) × (left ≡ answered body found)
+unfolding lengthTold answered sealed
+finished body found p f = (
+  rw (p .count) at (f .told),
+  rw (p .count, p .leaves, take-over body found, over-over) at (f .leaves) ∙ empty-stays body found _,
+)
 
-  pub replies-bytes : (n : ℕ) (a : List ℕ) → n ≡ length (replyBytes c memory locks reply) → (n ≡ 0 → ⊥)
-      → a ≡ over (sealed (replyBytes c memory locks reply)) found
-      → Replies (replied c memory locks reply found) (record { card = c; number = 0; length = n + 2 }) a
-  unfolding replied
-  replies-bytes n a e h f =
-      let some : length (replyBytes c memory locks reply) ≡ 0 → ⊥ = λ z. h (e ∙ z) in
-      record {
-        card = refl;
-        number = refl;
-        told = ap (λ (k : ℕ). k + 2) e ∙ told-length (replyBytes c memory locks reply) found some;
-        answer-left = f ∙ answered-bytes (replyBytes c memory locks reply) found some;
-      }
+-- a reply over memory and locks that now are m and l
+pub leaves-reply : (c : Card) (m l found : List ℕ) (reply : Reply) {n : ℕ} {e : List ℕ} {r : ℕ} {a : List ℕ}
+    → Puts (replyBytes c m l reply) found n e → Finishes n e r a
+    → Leaves (replied c m l reply found) (record { card = c; number = 0; length = r }) m l a
+unfolding replied
+leaves-reply c m l found reply p f =
+    let done = finished (replyBytes c m l reply) found p f in
+    record { card = refl; number = refl; told = done .0; memory-left = refl; locks-left = refl; answer-left = done .1 }
 
--- the check behind a body of n bytes that stands at the start of its room
-pub sealed-over : (body found : List ℕ) (n : ℕ) (e : List ℕ) (r : ℤ) (left : List ℕ) → n ≡ length body → e ≡ over body found → length body + 2 ≤ length found
-    → Seals e n r left → left ≡ over (sealed body) found
-unfolding sealLeaves sealed
-sealed-over body found n e r left k f h p =
-    let size : length (over body found) ≡ length found = length-over body found (omega arith) in
-    let room : leb (length body + 2) (length (over body found)) ≡ true = le-leb (length body + 2) (length (over body found)) (omega arith) in
-    rw (f, k, room, take-over body found, over-over body (checkBytes body) found) at (p .leaves)
+-- a deed that was carried out
+pub leaves-deed : (d : Deed) (frame memory locks found : List ℕ) {m l : List ℕ} {n : ℕ} {e : List ℕ} {r : ℕ} {a : List ℕ}
+    → m ≡ memoryAfter (d .card) frame memory (d .effect) → l ≡ locksAfter locks (d .effect)
+    → Puts (replyBytes (d .card) m l (d .reply)) found n e → Finishes n e r a
+    → Leaves (carriedOut d frame memory locks found) (record { card = d .card; number = 0; length = r }) m l a
+unfolding carriedOut
+leaves-deed d frame memory locks found {m} {l} p q put f = rw (← p, ← q) (leaves-reply (d .card) m l found (d .reply) put f)
 
 -- power off, and a mark's turn
 pub leaves-off : (card c : Card) (memory locks found : List ℕ) → c ≡ poweredOff card
@@ -135,6 +114,8 @@ leaves-off card c memory locks found e =
       answer-left = answered-silence (replyBytes (poweredOff card) memory locks Silence) found none;
     }
 
-pub leaves-turn : (card : Card) (t : Turn) (memory locks found : List ℕ) (r : Served) (a : List ℕ) → t ≡ marked card
-    → Replies (replied (t .card) memory locks (t .reply) found) r a → Leaves (replied (marked card .card) memory locks (marked card .reply) found) r memory locks a
-leaves-turn card t memory locks found r a e p = rw (← e) (leaves-reply (t .card) memory locks found (t .reply) r a p)
+pub leaves-turn : (card : Card) (t : Turn) (memory locks found : List ℕ) {n : ℕ} {e : List ℕ} {r : ℕ} {a : List ℕ} → t ≡ marked card
+    → isBrief (t .reply) ≡ true → Puts (replyBytes (t .card) [] [] (t .reply)) found n e → Finishes n e r a
+    → Leaves (replied (marked card .card) memory locks (marked card .reply) found) (record { card = t .card; number = 0; length = r }) memory locks a
+leaves-turn card t memory locks found is brief put f =
+    rw (← is) (leaves-reply (t .card) memory locks found (t .reply) (rw (brief-bytes (t .card) memory locks (t .reply) brief) put) f)

@@ -1,7 +1,6 @@
 -- 01's example of the system information, by computation. Assumes nothing.
-use mathlib.Core.Path.{_≡_, refl}
-use mathlib.Core.List.{List, [], _∷_, _++_}
-use Prim.Native.Nat.{ℕ}
+use mathlib.Core.Path.{_≡_}
+use mathlib.Core.List.{[], _∷_, _++_}
 use Rattle.frames.specs.Field.{fieldBytes}
 use Rattle.card.specs.declared.Card.{Card}
 use Rattle.play.specs.Answer.{information}

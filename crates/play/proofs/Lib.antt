@@ -4,11 +4,12 @@ pub mod Copy
 pub mod Within
 pub mod Answers
 pub mod Blocks
+pub mod Brief
 pub mod Room
 pub mod Deeds
 pub mod Decided
 pub mod Turns
-pub mod EventWays
 pub mod ReadyFor
+pub mod EventWays
 pub mod Unique
 pub mod Examples

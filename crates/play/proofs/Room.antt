@@ -2,7 +2,7 @@
 -- Assumes nothing.
 use mathlib.Core.Path.{_≡_, refl}
 use mathlib.Core.Bool.{true, and-eq-true-iff}
-use mathlib.Core.List.{List}
+use mathlib.Core.List.{List, []}
 use Prim.Native.Nat.{ℕ, _+_, _*_, _≤_}
 use native.Mathlib.Nat.{mul-le-mul-right, le-mul-of-pos-right}
 use native.Mathlib.Omega.{arith}
@@ -13,11 +13,13 @@ use Rattle.card.specs.declared.Card.{Card}
 use Rattle.card.specs.declared.Reply.{Reply}
 use Rattle.card.specs.declared.Reply.the-variants.{Silence, Error, Done, Present, Blocks, Status, Information}
 use Rattle.play.specs.Refusal.{roomFits}
-use Rattle.play.specs.Fits.{replyFits}
-use Rattle.play.specs.Answer.{replyBytes, locksRead}
+use Rattle.lent.specs.Puts.{Puts}
+use Rattle.play.specs.Fits.{isBrief, replyFits, Ready}
+use Rattle.play.specs.Answer.{replyBytes, locksRead, PutsReply}
 use Rattle.play.proofs.Within.{blocks-within, status-within}
 use Rattle.play.proofs.Answers.{length-presence, length-information}
 use Rattle.play.proofs.Blocks.{blocks-most}
+use Rattle.play.proofs.Brief.{brief-most}
 
 -- the room that number 4 asks for
 pub record Room (c : Card) (room : ℕ) : Type 0 where
@@ -74,3 +76,14 @@ reply-silent c memory locks Present e = absurd (omega arith)
 reply-silent c memory locks (Blocks first n option) e = absurd (omega arith)
 reply-silent c memory locks (Status first n) e = absurd (omega arith)
 reply-silent c memory locks Information e = absurd (omega arith)
+
+-- a reply that was put has room for its check
+pub reply-put : (c : Card) (memory locks found : List ℕ) (reply : Reply) {n : ℕ} {left : List ℕ}
+    → Ready c (length memory) (length locks) (length found) → replyFits c reply ≡ true → Puts (replyBytes c memory locks reply) found n left
+    → PutsReply (replyBytes c memory locks reply) found n left
+reply-put c memory locks found reply ready fits p =
+    record { puts = p; room = omega (arith, p .count, reply-room c memory locks reply (length found) fits (ready .fits)) }
+
+pub brief-put : (c : Card) (found : List ℕ) (reply : Reply) {n : ℕ} {left : List ℕ} → isBrief reply ≡ true → 12 ≤ length found
+    → Puts (replyBytes c [] [] reply) found n left → PutsReply (replyBytes c [] [] reply) found n left
+brief-put c found reply brief h p = record { puts = p; room = omega (arith, p .count, brief-most c reply brief) }

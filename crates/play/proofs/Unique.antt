@@ -2,7 +2,6 @@
 use mathlib.Core.Path.{_≡_, sym, _∙_}
 use mathlib.Core.List.{List}
 use Prim.Native.Nat.{ℕ}
-use Rattle.card.specs.declared.Card.{Card}
 use Rattle.play.specs.declared.Served.{Served}
 use Rattle.play.specs.Events.{Outcome, Leaves}
 

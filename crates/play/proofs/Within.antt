@@ -1,5 +1,5 @@
 -- What effects and replies that fit say of their blocks. By the tests of the definitions. Assumes nothing.
-use mathlib.Core.Path.{_≡_, refl}
+use mathlib.Core.Path.{_≡_}
 use mathlib.Core.Bool.{Bool, true, and-eq-true-iff}
 use mathlib.Core.List.{List}
 use Prim.Native.Nat.{ℕ, _+_, _*_, _≤_, _<_}
@@ -8,10 +8,10 @@ use lib.Dec.{leb, ltb}
 use lib.ListN.{length}
 use Rattle.card.specs.declared.Card.{Card}
 use Rattle.requests.specs.declared.Effect.{Effect}
-use Rattle.requests.specs.declared.Effect.the-variants.{Leave, Write, Lock}
+use Rattle.requests.specs.declared.Effect.the-variants.{Write, Lock}
 use Rattle.card.specs.declared.Reply.{Reply}
 use Rattle.card.specs.declared.Reply.the-variants.{Blocks, Status}
-use Rattle.play.specs.Fits.{effectFits, replyFits, lockFits}
+use Rattle.play.specs.Fits.{effectFits, replyFits}
 use Rattle.play.proofs.Shape.{block-within}
 
 -- a write has its block in memory and its data in the frame
@@ -30,17 +30,9 @@ write-within {c} {frame} {e} {block} {place} is fits =
     }
 
 -- a lock has its block among the lock bytes
-pub lock-within : {blocks : ℕ} {e : Effect} {block : ℕ} → e ≡ Lock block → lockFits blocks e ≡ true → block < blocks
-unfolding lockFits
-lock-within {blocks} {e} {block} is fits = ltb-true block blocks (rw is at fits)
-
--- an effect that fits the card locks one of its lock bytes
-pub lock-fits : (c : Card) (frame locks : List ℕ) (e : Effect) → length locks ≡ c .blocks → effectFits c frame e ≡ true
-    → lockFits (length locks) e ≡ true
-unfolding effectFits lockFits
-lock-fits c frame locks Leave n fits = refl
-lock-fits c frame locks (Write block place) n fits = refl
-lock-fits c frame locks (Lock block) n fits = rw n fits
+pub lock-within : (c : Card) (frame : List ℕ) {e : Effect} {block : ℕ} → e ≡ Lock block → effectFits c frame e ≡ true → block < c .blocks
+unfolding effectFits
+lock-within c frame {e} {block} is fits = ltb-true block (c .blocks) (rw is at fits)
 
 -- blocks that are read are the card's
 pub blocks-within : (c : Card) {reply : Reply} {first n : ℕ} {option : Bool} → reply ≡ Blocks first n option → replyFits c reply ≡ true

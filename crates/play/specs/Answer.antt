@@ -1,8 +1,9 @@
 -- 01, The card: the bytes of each answer, without the check. "error answers (01, code, check)"; "effect and answer after 00".
-use Prim.Native.Nat.{ℕ, zero, suc, _+_, _-_, _*_}
+use Prim.Native.Nat.{ℕ, zero, suc, _+_, _-_, _*_, _≤_}
 use mathlib.Core.Bool.{Bool, cond}
 use mathlib.Core.List.{List, [], _∷_, _++_}
-use lib.ListN.{take, drop, getD}
+use lib.ListN.{length, take, drop, getD}
+use Rattle.lent.specs.Puts.{Puts}
 use Rattle.frames.specs.Field.{fieldBytes}
 use Rattle.card.specs.declared.Card.{Card}
 use Rattle.card.specs.declared.Reply.{Reply}
@@ -43,3 +44,8 @@ replyBytes c memory locks Present = 0x00 ∷ presence c
 replyBytes c memory locks (Blocks first n option) = 0x00 ∷ blocksRead memory locks (c .size) option first n
 replyBytes c memory locks (Status first n) = 0x00 ∷ locksRead locks first n
 replyBytes c memory locks Information = 0x00 ∷ information c
+
+-- what the functions that put a whole reply promise: its bytes at the start of the buffer, with room for the check behind them
+pub record PutsReply (bytes buffer : List ℕ) (r : ℕ) (left : List ℕ) : Type 0 where
+  pub puts : Puts bytes buffer r left
+  pub room : r + 2 ≤ length buffer

@@ -4,7 +4,7 @@ use mathlib.Core.Bool.{cond}
 use mathlib.Core.List.{List}
 use mathlib.Core.Path.{_≡_}
 use lib.Dec.{eqb}
-use lib.ListN.{length}
+use lib.ListN.{length, take}
 use Rattle.lent.specs.Lent.{over}
 use Rattle.crc.specs.Check.{sealed}
 use Rattle.card.specs.declared.Card.{Card}
@@ -26,6 +26,11 @@ lengthTold body = cond (eqb (length body) 0) 0 (length body + 2)
 -- "Silence leaves the answer buffer as found.": else the answer with its check, and the bytes past it as found
 unfoldable pub answered : List ℕ → List ℕ → List ℕ
 answered body found = cond (eqb (length body) 0) found (over (sealed body) found)
+
+-- what `finish` promises for n bytes at the start of a buffer: nothing for none, else their length with the check, which is appended
+pub record Finishes (n : ℕ) (buffer : List ℕ) (r : ℕ) (left : List ℕ) : Type 0 where
+  pub told : r ≡ cond (eqb n 0) 0 (n + 2)
+  pub leaves : left ≡ cond (eqb n 0) buffer (over (sealed (take n buffer)) buffer)
 
 -- all that a call leaves behind: number is the refusal, 0 where it is served, and told the answer's length
 pub record Outcome : Type 0 where
@@ -78,11 +83,4 @@ pub record Leaves (o : Outcome) (r : Served) (memory locks answer : List ℕ) : 
   pub told : r .length ≡ o .told
   pub memory-left : memory ≡ o .memory
   pub locks-left : locks ≡ o .locks
-  pub answer-left : answer ≡ o .answer
-
--- the same for a reply alone, which leaves memory and locks
-pub record Replies (o : Outcome) (r : Served) (answer : List ℕ) : Type 0 where
-  pub card : r .card ≡ o .card
-  pub number : r .number ≡ o .number
-  pub told : r .length ≡ o .told
   pub answer-left : answer ≡ o .answer

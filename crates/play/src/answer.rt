@@ -5,9 +5,8 @@ ghost use mathlib.Core.List.{[], _∷_};
 ghost use Prim.Native.Nat.{_+_, _*_, _≤_, _<_};
 ghost use lib.ListN.{length};
 ghost use Rattle.card.specs.Record.{shapeFits};
-ghost use Rattle.play.specs.Refusal.{roomFits};
-ghost use Rattle.play.specs.Fits.{replyFits};
-ghost use Rattle.play.specs.Answer.{blockRead, blocksRead, locksRead, information, presence, replyBytes};
+ghost use Rattle.play.specs.Fits.{isBrief, replyFits, Ready};
+ghost use Rattle.play.specs.Answer.{blockRead, blocksRead, locksRead, information, presence, replyBytes, PutsReply};
 ghost use Rattle.lent.specs.Puts.{Puts, PutsAt};
 use crate::effects::copy;
 use card::Card;
@@ -114,6 +113,20 @@ fn put_locks(locks: &[u8], first: usize, n: usize, answer: &mut [u8]) -> usize
     n + 1
 }
 
+// The replies that need no memory.
+pub(crate) fn put_brief(card: Card, reply: Reply, answer: &mut [u8]) -> usize
+    requires { ⌜ isBrief reply ≡ true ⌝ }
+    requires { ⌜ 12 ≤ length (now answer) ⌝ }
+    ensures { λ r. ⌜ PutsReply (replyBytes card [] [] reply) (now (answer .entry)) r (now (answer .exit)) ⌝ }
+{
+    match reply {
+        Reply::Error(code) => put_error(code, answer),
+        Reply::Done => put_done(answer),
+        Reply::Present => put_presence(card, answer),
+        _ => 0,
+    }
+}
+
 pub(crate) fn put_reply(
     card: Card,
     memory: &[u8],
@@ -121,19 +134,12 @@ pub(crate) fn put_reply(
     reply: Reply,
     answer: &mut [u8],
 ) -> usize
-    requires { ⌜ shapeFits (card .blocks) (card .size) ≡ true ⌝ }
+    requires { ⌜ Ready card (length (now memory)) (length (now locks)) (length (now answer)) ⌝ }
     requires { ⌜ replyFits card reply ≡ true ⌝ }
-    requires { ⌜ length (now memory) ≡ card .blocks * card .size ⌝ }
-    requires { ⌜ length (now locks) ≡ card .blocks ⌝ }
-    requires { ⌜ roomFits card (length (now answer)) ≡ true ⌝ }
-    ensures { λ r. ⌜ Puts (replyBytes card (now (memory .entry)) (now (locks .entry)) reply) (now (answer .entry)) r (now (answer .exit)) ⌝ }
+    ensures { λ r. ⌜ PutsReply (replyBytes card (now (memory .entry)) (now (locks .entry)) reply) (now (answer .entry)) r (now (answer .exit)) ⌝ }
 {
     let size = card.size as usize;
     match reply {
-        Reply::Silence => 0,
-        Reply::Error(code) => put_error(code, answer),
-        Reply::Done => put_done(answer),
-        Reply::Present => put_presence(card, answer),
         Reply::Blocks(first, n, option) => put_blocks(
             memory,
             locks,
@@ -145,5 +151,6 @@ pub(crate) fn put_reply(
         ),
         Reply::Status(first, n) => put_locks(locks, first as usize, n as usize, answer),
         Reply::Information => put_information(card, answer),
+        _ => put_brief(card, reply, answer),
     }
 }

@@ -4,7 +4,7 @@ ghost use mathlib.Core.Bool.{true};
 ghost use Prim.Native.Nat.{_+_, _*_, _≤_};
 ghost use lib.ListN.{length, take, drop};
 ghost use Rattle.lent.specs.Lent.{placed};
-ghost use Rattle.play.specs.Fits.{effectFits, lockFits};
+ghost use Rattle.play.specs.Fits.{effectFits};
 ghost use Rattle.play.specs.Effects.{memoryAfter, locksAfter};
 use card::Card;
 use requests::Effect;
@@ -22,11 +22,18 @@ pub(crate) fn copy(from: &[u8], at: usize, n: usize, to: &mut [u8], place: usize
     }
 }
 
-// Writes the block, if the effect is a write.
-pub(crate) fn change_memory(card: Card, frame: &[u8], effect: Effect, memory: &mut [u8])
+// Writes the block, or locks it, as the effect is.
+pub(crate) fn take_effect(
+    card: Card,
+    frame: &[u8],
+    effect: Effect,
+    memory: &mut [u8],
+    locks: &mut [u8],
+)
     requires { ⌜ effectFits card (now frame) effect ≡ true ⌝ }
     requires { ⌜ length (now memory) ≡ card .blocks * card .size ⌝ }
-    ensures { λ _. ⌜ now (memory .exit) ≡ memoryAfter card (now (frame .entry)) (now (memory .entry)) effect ⌝ }
+    requires { ⌜ length (now locks) ≡ card .blocks ⌝ }
+    ensures { λ _. ⌜ (now (memory .exit) ≡ memoryAfter card (now (frame .entry)) (now (memory .entry)) effect) × (now (locks .exit) ≡ locksAfter (now (locks .entry)) effect) ⌝ }
 {
     let size = card.size as usize;
     match effect {
@@ -34,18 +41,6 @@ pub(crate) fn change_memory(card: Card, frame: &[u8], effect: Effect, memory: &m
         Effect::Write(block, place) => {
             copy(frame, place as usize, size, memory, (block as usize) * size);
         }
-        Effect::Lock(_) => {}
-    }
-}
-
-// Locks the block, if the effect is a lock.
-pub(crate) fn change_locks(effect: Effect, locks: &mut [u8])
-    requires { ⌜ lockFits (length (now locks)) effect ≡ true ⌝ }
-    ensures { λ _. ⌜ now (locks .exit) ≡ locksAfter (now (locks .entry)) effect ⌝ }
-{
-    match effect {
-        Effect::Leave => {}
-        Effect::Write(_, _) => {}
         Effect::Lock(block) => {
             locks[block as usize] = 1;
         }

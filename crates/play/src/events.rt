@@ -1,42 +1,49 @@
 // A frame, a slot mark, power off.
 ghost use mathlib.Core.Path.{_≡_};
-ghost use mathlib.Core.Bool.{true};
-ghost use Prim.Native.Nat.{_*_};
+ghost use Prim.Native.Nat.{_+_, _≤_};
 ghost use lib.ListN.{length};
-ghost use Rattle.card.specs.Record.{shapeFits};
-ghost use Rattle.play.specs.Refusal.{roomFits};
-ghost use Rattle.play.specs.Fits.{replyFits};
-ghost use Rattle.play.specs.Events.{frameEvent, markEvent, offEvent, replied, Leaves, Replies};
+ghost use Rattle.play.specs.Fits.{DeedReady};
+ghost use Rattle.play.specs.Events.{Finishes, carriedOut, frameEvent, markEvent, offEvent, Leaves};
 use crate::Served;
+use crate::answer::put_brief;
 use crate::answer::put_reply;
-use crate::effects::change_locks;
-use crate::effects::change_memory;
+use crate::effects::take_effect;
 use crate::refusal::refusal;
 use card::Card;
-use card::Reply;
+use requests::Deed;
 
-// The reply with its check, or nothing for silence.
-fn reply_to(card: Card, memory: &[u8], locks: &[u8], reply: Reply, answer: &mut [u8]) -> Served
-    requires { ⌜ shapeFits (card .blocks) (card .size) ≡ true ⌝ }
-    requires { ⌜ replyFits card reply ≡ true ⌝ }
-    requires { ⌜ length (now memory) ≡ card .blocks * card .size ⌝ }
-    requires { ⌜ length (now locks) ≡ card .blocks ⌝ }
-    requires { ⌜ roomFits card (length (now answer)) ≡ true ⌝ }
-    ensures { λ r. ⌜ Replies (replied card (now (memory .entry)) (now (locks .entry)) reply (now (answer .entry))) r (now (answer .exit)) ⌝ }
+// The check put behind n bytes of an answer, and its length; nothing for silence.
+fn finish(n: usize, answer: &mut [u8]) -> usize
+    requires { ⌜ n + 2 ≤ length (now answer) ⌝ }
+    ensures { λ r. ⌜ Finishes n (now (answer .entry)) r (now (answer .exit)) ⌝ }
 {
-    let n = put_reply(card, memory, locks, reply, answer);
     if n == 0 {
-        return Served {
-            card: card,
-            number: 0,
-            length: 0,
-        };
+        return 0;
     }
     frames::seal(answer, n);
+    n + 2
+}
+
+// A deed over memory and locks, and its answer.
+fn carry_out(
+    deed: Deed,
+    frame: &[u8],
+    memory: &mut [u8],
+    locks: &mut [u8],
+    answer: &mut [u8],
+) -> Served
+    requires { ⌜ DeedReady (now frame) deed (length (now memory)) (length (now locks)) (length (now answer)) ⌝ }
+    ensures { λ r. ⌜ Leaves (carriedOut deed (now (frame .entry)) (now (memory .entry)) (now (locks .entry)) (now (answer .entry))) r (now (memory .exit)) (now (locks .exit)) (now (answer .exit)) ⌝ }
+{
+    let next = deed.card;
+    let effect = deed.effect;
+    let reply = deed.reply;
+    take_effect(next, frame, effect, memory, locks);
+    let n = put_reply(next, memory, locks, reply, answer);
     Served {
-        card: card,
+        card: next,
         number: 0,
-        length: n + 2,
+        length: finish(n, answer),
     }
 }
 
@@ -59,12 +66,7 @@ pub fn frame(
         };
     }
     let deed = requests::decide(card, locks, frame);
-    let next = deed.card;
-    let effect = deed.effect;
-    let reply = deed.reply;
-    change_memory(next, frame, effect, memory);
-    change_locks(effect, locks);
-    reply_to(next, memory, locks, reply, answer)
+    carry_out(deed, frame, memory, locks, answer)
 }
 
 // A slot mark arrives.
@@ -82,7 +84,13 @@ pub fn mark(card: Card, memory: &[u8], locks: &[u8], answer: &mut [u8]) -> Serve
     let turn = card.hear_mark();
     let next = turn.card;
     let reply = turn.reply;
-    reply_to(next, memory, locks, reply, answer)
+    let n = put_brief(next, reply, answer);
+    let told = finish(n, answer);
+    Served {
+        card: next,
+        number: 0,
+        length: told,
+    }
 }
 
 // Power goes off.

@@ -5,7 +5,6 @@ use mathlib.Core.Bool.{Bool, true, false, cond, _||_}
 use Prim.Native.Nat.{ℕ}
 use mathlib.Core.List.{List}
 use lib.ListN.{getD}
-use Rattle.frames.specs.declared.Flags.{Flags}
 use Rattle.frames.specs.Flags.{flagsOf}
 use Rattle.frames.specs.Frame.{isSound}
 use Rattle.card.specs.declared.Card.{Card}

@@ -1,6 +1,5 @@
 -- `play::events::power_off` meets its contract: refused, or silence (EventWays.antt). Assumes nothing.
 use borrow.Author.Needs.{needs}
-use mathlib.Core.Path.{refl, sym, _∙_}
 use Rattle.play.specs.Events.{offEvent}
 use Rattle.play.proofs.EventWays.{leaves-refused, leaves-served, leaves-off}
 use Rattle.play.proofs.events.power_off.Statement.{statement}

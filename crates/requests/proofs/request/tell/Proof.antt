@@ -1,7 +1,6 @@
 -- `requests::request::tell` meets its contract: by the one test. Assumes nothing.
 use borrow.Author.Needs.{needs}
 use borrow.Author.Tests.{lt-ltb, le-ltb}
-use mathlib.Core.Bool.{false}
 use Rattle.requests.proofs.Verdicts.{made-answer}
 use Rattle.requests.proofs.request.tell.Statement.{statement}
 use Rattle.requests.proofs.request.tell.Tie as tie
