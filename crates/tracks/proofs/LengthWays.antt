@@ -1,60 +1,40 @@
--- The ways out of the length of a track in a coding, test by test. Assumes nothing.
-use mathlib.Core.Path.{_≡_, refl, sym}
-use mathlib.Core.Bool.{true, false}
-use Prim.Native.Nat.{ℕ, suc, _-_, _≤_, _<_}
+-- The length of a frame by the tests on its track: first on all but the units, then on these. Assumes nothing.
+use mathlib.Core.Path.{_≡_}
+use mathlib.Core.Bool.{Bool, true, false, cond, _&&_, and-assoc, and-eq-true-iff}
 use mathlib.Core.List.{List}
-use borrow.Author.Tests.{eq-eqb, ne-eqb, le-leb, lt-leb}
+use Prim.Native.Nat.{ℕ, suc, _-_, _<_}
+use native.Mathlib.Omega.{arith}
+use borrow.Author.Tests.{eqb-true, ne-eqb}
+use lib.Dec.{leb, eqb}
 use lib.ListN.{length, getD, drop}
 use Rattle.frames.specs.Frame.{longest}
 use Rattle.tracks.specs.Track.{start, end, trackLength}
 use Rattle.tracks.specs.Decoder.{areBytes, countOf, isTrack, lengthAs}
 
+-- the tests on all but the units
+abbrev pub framed : ℕ → List ℕ → Bool
+framed coding t =
+    eqb (length t) (trackLength coding (countOf coding t))
+    && eqb (getD t 0 0) (start coding)
+    && leb (countOf coding t) longest
+    && eqb (getD t (length t - 1) 0) end
+
 module _ (coding : ℕ) (t : List ℕ) where
-  pub not-length : (trackLength coding (countOf coding t) ≡ length t → ⊥) → suc longest ≡ lengthAs coding t
-  unfolding lengthAs isTrack
-  not-length h = rw (ne-eqb (length t) (trackLength coding (countOf coding t)) (λ e. h (sym e)))
+  pub size-of-framed : framed coding t ≡ true → length t ≡ trackLength coding (countOf coding t)
+  size-of-framed h = eqb-true (length t) _ (and-eq-true-iff _ _ .0 (and-eq-true-iff _ _ .0 (and-eq-true-iff _ _ .0 h .0) .0) .0)
 
-  module _ (right : trackLength coding (countOf coding t) ≡ length t) where
-    pub not-start : (getD t 0 0 ≡ start coding → ⊥) → suc longest ≡ lengthAs coding t
-    unfolding lengthAs isTrack
-    not-start h = rw (eq-eqb (length t) (trackLength coding (countOf coding t)) (sym right), ne-eqb (getD t 0 0) (start coding) h)
+  track-by-tests : isTrack coding t ≡ (framed coding t && areBytes coding (countOf coding t) (drop 1 t))
+  unfolding isTrack
+  track-by-tests = simp and-assoc
 
-    module _ (starts : getD t 0 0 ≡ start coding) where
-      pub not-short : longest < countOf coding t → suc longest ≡ lengthAs coding t
-      unfolding lengthAs isTrack
-      not-short h =
-          rw (
-            eq-eqb (length t) (trackLength coding (countOf coding t)) (sym right),
-            eq-eqb (getD t 0 0) (start coding) starts,
-            lt-leb (countOf coding t) longest h,
-          )
+  pub length-unframed : framed coding t ≡ false → lengthAs coding t ≡ suc longest
+  unfolding lengthAs
+  length-unframed h = rw (track-by-tests, h)
 
-      module _ (short : countOf coding t ≤ longest) where
-        pub not-end : (getD t (length t - 1) 0 ≡ end → ⊥) → suc longest ≡ lengthAs coding t
-        unfolding lengthAs isTrack
-        not-end h =
-            rw (
-              eq-eqb (length t) (trackLength coding (countOf coding t)) (sym right),
-              eq-eqb (getD t 0 0) (start coding) starts,
-              le-leb (countOf coding t) longest short,
-              ne-eqb (getD t (length t - 1) 0) end h,
-            )
+  pub length-too-short : length t < 2 → lengthAs coding t ≡ suc longest
+  length-too-short h = length-unframed (rw (ne-eqb (length t) (trackLength coding (countOf coding t)) (λ e. omega arith)))
 
-        module _ (ends : getD t (length t - 1) 0 ≡ end) where
-          to-bytes : isTrack coding t ≡ areBytes coding (countOf coding t) (drop 1 t)
-          unfolding isTrack
-          to-bytes =
-              rw (
-                eq-eqb (length t) (trackLength coding (countOf coding t)) (sym right),
-                eq-eqb (getD t 0 0) (start coding) starts,
-                le-leb (countOf coding t) longest short,
-                eq-eqb (getD t (length t - 1) 0) end ends,
-              )
-
-          pub not-bytes : areBytes coding (countOf coding t) (drop 1 t) ≡ false → suc longest ≡ lengthAs coding t
-          unfolding lengthAs
-          not-bytes h = rw (to-bytes, h)
-
-          pub all-right : areBytes coding (countOf coding t) (drop 1 t) ≡ true → countOf coding t ≡ lengthAs coding t
-          unfolding lengthAs
-          all-right h = rw (to-bytes, h)
+  pub length-framed : framed coding t ≡ true
+      → lengthAs coding t ≡ cond (areBytes coding (countOf coding t) (drop 1 t)) (countOf coding t) (suc longest)
+  unfolding lengthAs
+  length-framed h = rw (track-by-tests, h)

@@ -40,7 +40,7 @@ module _ (t : List ℕ) (at : ℕ) (inside : at + 64 ≤ length t) where
 
   module _ (place : ℕ) (first : place ≡ zeros (take 64 (drop at t))) (found : place < 64) where
     -- by the first byte that is not 00, and what is past it
-    lone-at : lone (take 64 (drop at t))
+    pub lone-at : lone (take 64 (drop at t))
         ≡ cond (ltb (pairOf (getD t (at + place) 0)) 4 && eqb (zeros (take (63 - place) (drop (at + place + 1) t))) (63 - place))
         (4 * place + pairOf (getD t (at + place) 0))
         256
@@ -55,17 +55,6 @@ module _ (t : List ℕ) (at : ℕ) (inside : at + 64 ≤ length t) where
         length-take-le (63 - place) (drop (at + place + 1) t) (rw length-drop (omega arith))
         in
         rw (← first, getD-part t at 64 place found, rest, left)
-
-    pub lone-no-pair : 4 ≤ pairOf (getD t (at + place) 0) → 256 ≡ lone (take 64 (drop at t))
-    lone-no-pair h = rw (lone-at, le-ltb (pairOf (getD t (at + place) 0)) 4 h)
-
-    module _ (pair : pairOf (getD t (at + place) 0) < 4) where
-      pub lone-two : (zeros (take (63 - place) (drop (at + place + 1) t)) ≡ 63 - place → ⊥) → 256 ≡ lone (take 64 (drop at t))
-      lone-two h = rw (lone-at, lt-ltb (pairOf (getD t (at + place) 0)) 4 pair, ne-eqb (zeros (take (63 - place) (drop (at + place + 1) t))) (63 - place) h)
-
-      pub lone-one : zeros (take (63 - place) (drop (at + place + 1) t)) ≡ 63 - place
-          → 4 * place + pairOf (getD t (at + place) 0) ≡ lone (take 64 (drop at t))
-      lone-one h = rw (lone-at, lt-ltb (pairOf (getD t (at + place) 0)) 4 pair, eq-eqb (zeros (take (63 - place) (drop (at + place + 1) t))) (63 - place) h)
 
 -- by the coding
 pub byte-of-4 : (coding : ℕ) (u : List ℕ) → coding ≡ 0 → byteOf coding u ≡ byteOf 0 u

@@ -20,19 +20,11 @@ const NO_FRAME: usize = LONGEST + 1;
 fn join(a: u8, b: u8, c: u8, d: u8) -> u16
     ensures { λ r. ⌜ r ≡ joined a b c d ⌝ }
 {
-    if 4 <= a {
-        return NONE;
+    if (a < 4) & (b < 4) & (c < 4) & (d < 4) {
+        (a as u16) + 4 * (b as u16) + 16 * (c as u16) + 64 * (d as u16)
+    } else {
+        NONE
     }
-    if 4 <= b {
-        return NONE;
-    }
-    if 4 <= c {
-        return NONE;
-    }
-    if 4 <= d {
-        return NONE;
-    }
-    (a as u16) + 4 * (b as u16) + 16 * (c as u16) + 64 * (d as u16)
 }
 
 // 1 of 4: the byte of four track bytes. The last is read first: else the compiler shares the read of the first with 1 of 256 and has
@@ -53,14 +45,12 @@ fn eight_blank(track: &[u8], at: usize) -> bool
     requires { ⌜ at + 8 ≤ length (now track) ⌝ }
     ensures { λ r. ⌜ (r ≡ true → (k : ℕ) → k < 8 → getD (now (track .entry)) (at + k) 0 ≡ 0) ⌝ }
 {
-    let all = track[at]
-        | track[at + 1]
-        | track[at + 2]
-        | track[at + 3]
-        | track[at + 4]
-        | track[at + 5]
-        | track[at + 6]
-        | track[at + 7];
+    let mut all = 0;
+    let mut k = 0;
+    while k < 8 {
+        all |= track[at + k];
+        k += 1;
+    }
     all == 0
 }
 
@@ -105,14 +95,12 @@ fn lone_at(track: &[u8], at: usize) -> u16
         return NONE;
     }
     let pair = pair_of(track[at + place]);
-    if 4 <= pair {
-        return NONE;
-    }
     let rest = 63 - place;
-    if zeros_at(track, at + place + 1, rest) != rest {
-        return NONE;
+    if (pair < 4) & (zeros_at(track, at + place + 1, rest) == rest) {
+        (4 * place) as u16 + (pair as u16)
+    } else {
+        NONE
     }
-    (4 * place) as u16 + (pair as u16)
 }
 
 // The byte of the unit at a place, or NONE.
@@ -172,16 +160,11 @@ fn length_as(track: &[u8], coding: u8) -> usize
     }
     let width = unit_of(coding);
     let count = (n - 2) / width;
-    if 2 + width * count != n {
-        return NO_FRAME;
-    }
-    if track[0] != start_of(coding) {
-        return NO_FRAME;
-    }
-    if LONGEST < count {
-        return NO_FRAME;
-    }
-    if track[n - 1] != END {
+    let framed = (n == 2 + width * count)
+        & (frames::byte_at(track, 0) == start_of(coding))
+        & (count <= LONGEST)
+        & (frames::byte_at(track, n - 1) == END);
+    if !framed {
         return NO_FRAME;
     }
     if all_bytes(track, coding, count) {

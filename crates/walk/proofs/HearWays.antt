@@ -13,8 +13,7 @@ use Rattle.walk.specs.declared.Slot.{Slot}
 use Rattle.walk.specs.declared.Slot.the-variants.{Silent, Clashed, Clean}
 use Rattle.walk.specs.Marks.{deepest, withMark}
 use Rattle.walk.specs.Record.{places, mostRounds, isRunning, isAccepted, remade, ended, counted, marked, opened}
-use Rattle.walk.specs.Hear.{judged, endsAtOnce, noted, listNoted, turned, passed, walkAfter, listAfter, After, refusal, unheard, hearing, Hears}
-use Rattle.walk.specs.declared.Heard.{Heard}
+use Rattle.walk.specs.Hear.{judged, endsAtOnce, noted, listNoted, turned, passed, walkAfter, listAfter, After, refusal, hearing, Hears}
 use Rattle.walk.proofs.Levels.{deepest-set}
 use Rattle.walk.proofs.Limits.{accepted-of-is-accepted}
 
@@ -97,12 +96,12 @@ served-of-refusal w room n is e = go (isAccepted w) (isRunning w) (leb 64 room) 
     go true false c p q u e = absurd (omega arith)
     go false b c p q u e = absurd (omega arith)
 
-pub hears-refused : (w : Walk) (kind : Kind) (bytes list : List ℕ) (n : ℕ) (r : Heard) → n ≡ refusal w (length list) → (n ≡ 0 → ⊥)
-    → r ≡ unheard w n → Hears (hearing w kind bytes list) r list
-unfolding hearing unheard
-hears-refused w kind bytes list n r is h e =
+pub hears-refused : (w : Walk) (kind : Kind) (bytes list : List ℕ) (n : ℕ) → n ≡ refusal w (length list) → (n ≡ 0 → ⊥)
+    → Hears (hearing w kind bytes list) (record { walk = w; number = n }) list
+unfolding hearing
+hears-refused w kind bytes list n is h =
     let other : eqb (refusal w (length list)) 0 ≡ false = rw (← is) (ne-eqb n 0 h) in
-    record { walk = ap (λ (x : Heard). x .walk) e ∙ rw other; number = ap (λ (x : Heard). x .number) e ∙ rw (other, ← is); list-left = rw other }
+    record { walk = rw other; number = rw (other, ← is); list-left = rw other }
 
 pub hears-served : (w : Walk) (kind : Kind) (bytes list : List ℕ) (n : ℕ) (slot : Slot) (r : Walk) (left : List ℕ) → n ≡ refusal w (length list)
     → n ≡ 0 → slot ≡ judged w kind bytes → After (walkAfter w slot) (listAfter w slot list) r left

@@ -1,7 +1,7 @@
 -- What an accepted record is, test by test, both ways; and how far an opened mask reaches. By the tests of the definition.
 -- Assumes nothing.
-use mathlib.Core.Path.{_≡_}
-use mathlib.Core.Bool.{true, and-eq-true-iff}
+use mathlib.Core.Path.{_≡_, sym}
+use mathlib.Core.Bool.{Bool, true, _&&_, and-assoc, and-eq-true-iff}
 use Prim.Native.Nat.{ℕ, _+_, _*_, _%_, _^_, _≤_, _<_}
 use native.Mathlib.Nat.{mod-lt, mul-le-mul-right}
 use native.Mathlib.Omega.{arith}
@@ -42,6 +42,15 @@ accepted-of-is-accepted w e =
       own-level = leb-true (deepest (w .marks)) (w .level + 1) (t7 .0);
       last-level = ltb-true (deepest (w .marks)) 16 (t7 .1);
     }
+
+-- the tests on slot, count and rounds, and all of them after the level's
+abbrev pub numbersFit : Walk → Bool
+numbersFit w = leb (w .slot) 15 && leb (w .count) 64 && leb 1 (w .rounds) && leb (w .rounds) 481
+
+pub is-accepted-by-tests : (w : Walk) → w .level < 16
+    → isAccepted w ≡ (numbersFit w && (ltb (w .mask) (2 ^ maskLength (w .level)) && marksFit (w .marks) (w .level)))
+unfolding isAccepted levels places mostRounds
+is-accepted-by-tests w h = rw (lt-ltb (w .level) 16 h) (sym (simp and-assoc))
 
 pub is-accepted-of-accepted : (w : Walk) → Accepted w → isAccepted w ≡ true
 unfolding isAccepted marksFit levels places mostRounds

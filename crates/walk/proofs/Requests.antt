@@ -110,27 +110,30 @@ over-check : (s e : List ℕ) → over (sealed (take (length s) (over s e))) (ov
 unfolding sealed
 over-check s e = rw (take-over s e) (over-over s (checkBytes s) e)
 
-pub puts-request : (w : Walk) (e : List ℕ) {at bytes : ℕ} {first second third : List ℕ} {r q : ℤ} → Puts (requestHead w) e at first
-    → bytes ≡ maskBytes (4 * w .level) → PutsField (set first at (4 * w .level)) (at + 1) bytes (w .mask) r second
-    → Seals second (at + 1 + bytes) q third → w .level < 16 → 14 ≤ length e → Puts (request w) e (at + 3 + bytes) third
-unfolding request requestBody maskLength
-puts-request w e {at} {bytes} {first} {second} {third} head is field seal h k =
+pub puts-body : (w : Walk) (e : List ℕ) {at bytes : ℕ} {first second : List ℕ} {r : ℤ} → Puts (requestHead w) e at first
+    → bytes ≡ maskBytes (4 * w .level) → PutsField (set first at (4 * w .level)) (at + 1) bytes (w .mask) r second → w .level < 16 → 14 ≤ length e
+    → Puts (requestBody w) e (at + 1 + bytes) second
+unfolding requestBody maskLength
+puts-body w e {at} {bytes} {first} {second} head is field h k =
     let s : List ℕ = requestHead w in
     let v : List ℕ = fieldBytes bytes (w .mask) in
-    let body : List ℕ = s ++ 4 * w .level ∷ v in
     let n : length v ≡ bytes = length-field-bytes bytes (w .mask) in
-    let all : length body ≡ length s + 1 + bytes = length-append s (4 * w .level ∷ v) ∙ omega arith in
     let short : length s ≤ 3 = length-head-most w in
     let few : bytes ≤ 8 = rw is (mask-bytes-most (w .level) h) in
     let place : at ≡ length s = head .count in
     let room : length (set first at (4 * w .level)) ≡ length e =
     length-set first at (4 * w .level) ∙ ap length (head .leaves) ∙ length-over s e (omega arith) in
-    let body-left : second ≡ over body e =
+    let left : second ≡ over (s ++ 4 * w .level ∷ v) e =
     put-field-unique field (puts-served (set first at (4 * w .level)) (at + 1) bytes (w .mask) (omega arith)) .1
     ∙ rw (head .leaves, place) (over-rest s v e (4 * w .level) (omega arith)) in
-    let same : length second ≡ length e = ap length body-left ∙ length-over body e (omega arith) in
-    let end : at + 1 + bytes ≡ length body = omega arith in
-    let sealed-left : third ≡ over (sealed (take (at + 1 + bytes) second)) second =
-    seal-unique seal (seals-served second (at + 1 + bytes) (omega arith)) .1 ∙ placed-check second (at + 1 + bytes) (omega arith) in
-    let whole : over (sealed (take (at + 1 + bytes) second)) second ≡ over (sealed body) e = rw (end, body-left) (over-check body e) in
-    record { count = omega (arith, length-request w); leaves = sealed-left ∙ whole ∙ rw is }
+    record { count = rw (← is) (omega (arith, length-append s (4 * w .level ∷ v))); leaves = left ∙ rw is }
+
+pub seals-body : (w : Walk) (e : List ℕ) {n : ℕ} {body left : List ℕ} {r : ℤ} → Puts (requestBody w) e n body → Seals body n r left
+    → w .level < 16 → 14 ≤ length e → left ≡ over (request w) e
+unfolding request
+seals-body w e {n} {body} puts seal h k =
+    let most : length (request w) ≤ 14 = length-request-most w h in
+    let long : length (request w) ≡ length (requestBody w) + 2 = length-sealed (requestBody w) in
+    let same : length body ≡ length e = length-puts puts (omega arith) in
+    let room : n + 2 ≤ length body = omega (arith, puts .count) in
+    seal-unique seal (seals-served body n room) .1 ∙ placed-check body n (omega arith) ∙ rw (puts .count, puts .leaves) (over-check (requestBody w) e)

@@ -81,11 +81,7 @@ pub record After (walk : Walk) (list : List ℕ) (r : Walk) (left : List ℕ) : 
 unfoldable pub refusal : Walk → ℕ → ℕ
 refusal w room = cond (isAccepted w) (cond (isRunning w) (cond (leb places room) 0 5) 6) 10
 
--- "All change nothing.": the walk as it was, and the number
-unfoldable pub unheard : Walk → ℕ → Heard
-unheard w n = record { walk = w; number = n }
-
--- all that hearing leaves behind
+-- all that hearing leaves behind; "All change nothing."
 pub record Hearing : Type 0 where
   pub walk : Walk
   pub list : List ℕ

@@ -1,22 +1,18 @@
 // What to send: a round's request, a slot mark, or nothing.
 ghost use mathlib.Core.Path.{_≡_};
-ghost use mathlib.Core.Bool.{true};
 ghost use Prim.Native.Nat.{_<_, _≤_};
+ghost use lib.Dec.{ltb};
 ghost use lib.ListN.{length};
 ghost use Rattle.lent.specs.Puts.{Puts};
-ghost use Rattle.walk.specs.Record.{hasFamily, isAccepted};
-ghost use Rattle.walk.specs.Ask.{requestHead, request, sent, roomAsked, roomAfter, refusal, asking, Asks};
+ghost use Rattle.walk.specs.Ask.{requestHead, requestBody, request, sent, roomAsked, roomAfter, refusal, asking, Asks};
 use crate::Asked;
 use crate::Send;
 use crate::Walk;
 
-fn has_family(walk: Walk) -> bool
-    ensures { λ r. ⌜ r ≡ hasFamily walk ⌝ }
+fn has_family(family: u16) -> bool
+    ensures { λ r. ⌜ r ≡ ltb family 256 ⌝ }
 {
-    if 256 <= walk.family {
-        return false;
-    }
-    true
+    family < 256
 }
 
 // Flags and command, with the family if there is one. Returns the place after them.
@@ -25,7 +21,7 @@ fn put_head(walk: Walk, room: &mut [u8]) -> usize
     ensures { λ r. ⌜ Puts (requestHead walk) (now (room .entry)) r (now (room .exit)) ⌝ }
 {
     room[1] = 0x01;
-    if has_family(walk) {
+    if has_family(walk.family) {
         room[0] = 0x16;
         room[2] = walk.family as u8;
         return 3;
@@ -34,19 +30,18 @@ fn put_head(walk: Walk, room: &mut [u8]) -> usize
     2
 }
 
-// The round's request, and its length.
-fn put_request(walk: Walk, room: &mut [u8]) -> usize
-    requires { ⌜ isAccepted walk ≡ true ⌝ }
+// The head, the mask's length and the mask. Returns the place after them.
+fn put_body(walk: Walk, room: &mut [u8]) -> usize
+    requires { ⌜ walk .level < 16 ⌝ }
     requires { ⌜ 14 ≤ length (now room) ⌝ }
-    ensures { λ r. ⌜ Puts (request walk) (now (room .entry)) r (now (room .exit)) ⌝ }
+    ensures { λ r. ⌜ Puts (requestBody walk) (now (room .entry)) r (now (room .exit)) ⌝ }
 {
     let at = put_head(walk, room);
     let n = 4 * walk.level;
     let bytes = slots::mask_bytes(n);
     room[at] = n;
     frames::put_field(room, at + 1, bytes, walk.mask);
-    frames::seal(room, at + 1 + bytes);
-    at + 3 + bytes
+    at + 1 + bytes
 }
 
 // How long the round's request is.
@@ -55,7 +50,7 @@ fn request_length(walk: Walk) -> usize
     ensures { λ r. ⌜ r ≡ length (request walk) ⌝ }
 {
     let bytes = slots::mask_bytes(4 * walk.level);
-    if has_family(walk) {
+    if has_family(walk.family) {
         bytes + 6
     } else {
         bytes + 5
@@ -92,7 +87,7 @@ fn refusal(walk: Walk, room: usize) -> u8
 
 // Puts the request into the room, if one is to be sent.
 fn fill(walk: Walk, send: Send, room: &mut [u8])
-    requires { ⌜ isAccepted walk ≡ true ⌝ }
+    requires { ⌜ walk .level < 16 ⌝ }
     requires { ⌜ roomAsked send ≤ length (now room) ⌝ }
     ensures { λ _. ⌜ now (room .exit) ≡ roomAfter walk send (now (room .entry)) ⌝ }
 {
@@ -100,7 +95,8 @@ fn fill(walk: Walk, send: Send, room: &mut [u8])
         Send::Nothing => {}
         Send::Mark => {}
         Send::Request(_) => {
-            put_request(walk, room);
+            let n = put_body(walk, room);
+            frames::seal(room, n);
         }
     }
 }

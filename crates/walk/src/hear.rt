@@ -5,7 +5,7 @@ ghost use Prim.Native.Nat.{_<_, _≤_};
 ghost use lib.ListN.{length};
 ghost use Rattle.walk.specs.Marks.{deepest};
 ghost use Rattle.walk.specs.Record.{isAccepted};
-ghost use Rattle.walk.specs.Hear.{uidOf, isClean, judged, endsAtOnce, noted, listNoted, turned, passed, walkAfter, listAfter, refusal, unheard, hearing, After, Hears};
+ghost use Rattle.walk.specs.Hear.{uidOf, isClean, judged, endsAtOnce, noted, listNoted, turned, passed, walkAfter, listAfter, refusal, hearing, After, Hears};
 use crate::Heard;
 use crate::Kind;
 use crate::Slot;
@@ -123,10 +123,7 @@ fn refusal(walk: Walk, room: usize) -> u8
     if walk.ending != 0 {
         return 6;
     }
-    if room < 64 {
-        return 5;
-    }
-    0
+    if room < 64 { 5 } else { 0 }
 }
 
 // The slot in a walk that hears.
@@ -143,16 +140,6 @@ fn take(walk: Walk, slot: Slot, list: &mut [u64]) -> Walk
     pass(note(walk, slot))
 }
 
-// A refused call hands the walk back as it was.
-fn refuse(walk: Walk, number: u8) -> Heard
-    ensures { λ r. ⌜ r ≡ unheard walk number ⌝ }
-{
-    Heard {
-        walk: walk.with_count(walk.count),
-        number: number,
-    }
-}
-
 impl Walk {
     // Hears a slot. Clean UIDs go to the list, of 64 places or more; the bytes are looked at for Kind::Bytes only.
     pub fn hear(self, kind: Kind, bytes: &[u8], list: &mut [u64]) -> Heard
@@ -160,7 +147,10 @@ impl Walk {
     {
         let number = refusal(self, list.len());
         if number != 0 {
-            return refuse(self, number);
+            return Heard {
+                walk: self,
+                number: number,
+            };
         }
         let slot = judge(self, kind, bytes);
         Heard {

@@ -1,7 +1,7 @@
 // The walk's record: which ones are accepted, and each way in which it changes.
 ghost use mathlib.Core.Path.{_≡_};
 ghost use Prim.Native.Nat.{_^_, _≤_, _<_};
-ghost use Rattle.walk.specs.Record.{maskLength, marksFit, isAccepted, remade, ended, counted, marked, atNextSlot, openedMask, opened, started};
+ghost use Rattle.walk.specs.Record.{maskLength, marksFit, isAccepted, ended, counted, marked, atNextSlot, openedMask, opened, started};
 use crate::Walk;
 use crate::marks::deepest;
 use crate::marks::lowest;
@@ -12,10 +12,7 @@ fn marks_fit(marks: [u16; 16], level: u8) -> bool
     ensures { λ r. ⌜ r ≡ marksFit marks level ⌝ }
 {
     let n = deepest(marks);
-    if (level as usize) + 1 < n {
-        return false;
-    }
-    n < 16
+    (n <= (level as usize) + 1) & (n < 16)
 }
 
 // The unit of the digit above j digits.
@@ -57,92 +54,39 @@ impl Walk {
     pub fn is_accepted(self) -> bool
         ensures { λ r. ⌜ r ≡ isAccepted self ⌝ }
     {
-        let marks = self.marks;
         if 16 <= self.level {
             return false;
         }
-        if 15 < self.slot {
-            return false;
-        }
-        if 64 < self.count {
-            return false;
-        }
-        if self.rounds == 0 {
-            return false;
-        }
-        if 481 < self.rounds {
+        let numbers = (self.slot <= 15)
+            & (self.count <= 64)
+            & (1 <= self.rounds)
+            & (self.rounds <= 481);
+        if !numbers {
             return false;
         }
         if !slots::is_below(self.mask, 4 * self.level) {
             return false;
         }
+        let marks = self.marks;
         marks_fit(marks, self.level)
     }
 
-    // The family stays.
-    fn remade(
-        self,
-        mask: u64,
-        marks: [u16; 16],
-        rounds: u16,
-        level: u8,
-        slot: u8,
-        count: u8,
-        ending: u8,
-    ) -> Walk
-        ensures { λ r. ⌜ r ≡ remade self mask marks rounds level slot count ending ⌝ }
-    {
-        Walk {
-            mask: mask,
-            marks: marks,
-            rounds: rounds,
-            family: self.family,
-            level: level,
-            slot: slot,
-            count: count,
-            ending: ending,
-        }
-    }
-
-    pub(crate) fn ended(self, ending: u8) -> Walk
+    pub(crate) fn ended(mut self, ending: u8) -> Walk
         ensures { λ r. ⌜ r ≡ ended ending self ⌝ }
     {
-        let marks = self.marks;
-        self.remade(
-            self.mask,
-            marks,
-            self.rounds,
-            self.level,
-            self.slot,
-            self.count,
-            ending,
-        )
+        self.ending = ending;
+        self
     }
 
-    // So many UIDs listed.
-    pub(crate) fn with_count(self, count: u8) -> Walk
-        ensures { λ r. ⌜ r ≡ remade self (self .mask) (self .marks) (self .rounds) (self .level) (self .slot) count (self .ending) ⌝ }
-    {
-        let marks = self.marks;
-        self.remade(
-            self.mask,
-            marks,
-            self.rounds,
-            self.level,
-            self.slot,
-            count,
-            self.ending,
-        )
-    }
-
-    pub(crate) fn counted(self) -> Walk
+    pub(crate) fn counted(mut self) -> Walk
         requires { ⌜ self .count < 64 ⌝ }
         ensures { λ r. ⌜ r ≡ counted self ⌝ }
     {
-        self.with_count(self.count + 1)
+        self.count += 1;
+        self
     }
 
-    pub(crate) fn marked(self) -> Walk
+    pub(crate) fn marked(mut self) -> Walk
         requires { ⌜ self .level < 16 ⌝ }
         requires { ⌜ self .slot < 16 ⌝ }
         ensures { λ r. ⌜ r ≡ marked self ⌝ }
@@ -150,52 +94,34 @@ impl Walk {
         let mut marks = self.marks;
         let at = self.level as usize;
         marks[at] = with_mark(marks[at], self.slot);
-        self.remade(
-            self.mask,
-            marks,
-            self.rounds,
-            self.level,
-            self.slot,
-            self.count,
-            self.ending,
-        )
+        self.marks = marks;
+        self
     }
 
-    pub(crate) fn at_next_slot(self) -> Walk
+    pub(crate) fn at_next_slot(mut self) -> Walk
         requires { ⌜ self .slot < 15 ⌝ }
         ensures { λ r. ⌜ r ≡ atNextSlot self ⌝ }
     {
-        let marks = self.marks;
-        self.remade(
-            self.mask,
-            marks,
-            self.rounds,
-            self.level,
-            self.slot + 1,
-            self.count,
-            self.ending,
-        )
+        self.slot += 1;
+        self
     }
 
     // Opens the lowest slot that waits at level j.
-    pub(crate) fn opened(self, j: u8) -> Walk
+    pub(crate) fn opened(mut self, j: u8) -> Walk
         requires { ⌜ j < 15 ⌝ }
         requires { ⌜ self .rounds < 481 ⌝ }
         ensures { λ r. ⌜ r ≡ opened self j ⌝ }
     {
         let mut marks = self.marks;
         let at = j as usize;
-        let s = lowest(marks[at]);
-        marks[at] = without_mark(marks[at], s);
-        let mask = opened_mask(self.mask, j, s);
-        self.remade(
-            mask,
-            marks,
-            self.rounds + 1,
-            j + 1,
-            0,
-            self.count,
-            self.ending,
-        )
+        let m = marks[at];
+        let s = lowest(m);
+        marks[at] = without_mark(m, s);
+        self.marks = marks;
+        self.mask = opened_mask(self.mask, j, s);
+        self.rounds += 1;
+        self.level = j + 1;
+        self.slot = 0;
+        self
     }
 }

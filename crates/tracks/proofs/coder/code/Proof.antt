@@ -50,10 +50,10 @@ put-track-requires c κs =
     (ap (λ (u : ℕ). 2 + u * length (args .frame .now)) (unit-of .ensures), third .left)
 
 cast-result : tie.Need-cast-result
-cast-result c = search needs
+cast-result c = omega arith
 
 same-length : tie.Need-same-length
-same-length c = search needs
+same-length c = omega arith
 
 returns-4 : tie.Need-returns-4
 unfolding longest

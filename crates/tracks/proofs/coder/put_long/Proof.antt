@@ -9,16 +9,16 @@ clear-requires : tie.Need-clear-requires
 clear-requires c κs = search needs
 
 cast-place : tie.Need-cast-place
-cast-place c = search needs
+cast-place c = omega arith
 
 pattern-of-requires : tie.Need-pattern-of-requires
 pattern-of-requires c κs = search needs
 
 add-track : tie.Need-add-track
-add-track c = search needs
+add-track c = omega arith
 
 slice-write-track : tie.Need-slice-write-track
-slice-write-track c = search needs
+slice-write-track c = omega arith
 
 same-length : tie.Need-same-length
 same-length c = search needs

@@ -11,31 +11,31 @@ pattern-of-requires : tie.Need-pattern-of-requires
 pattern-of-requires c κs = search needs
 
 pattern-of-requires-2 : tie.Need-pattern-of-requires-2
-pattern-of-requires-2 c κs = search needs
+pattern-of-requires-2 c κs = omega arith
 
 pattern-of-requires-3 : tie.Need-pattern-of-requires-3
-pattern-of-requires-3 c κs = search needs
+pattern-of-requires-3 c κs = omega arith
 
 pattern-of-requires-4 : tie.Need-pattern-of-requires-4
-pattern-of-requires-4 c κs = search needs
+pattern-of-requires-4 c κs = omega arith
 
 slice-write-track : tie.Need-slice-write-track
-slice-write-track c = search needs
+slice-write-track c = omega arith
 
 add-track : tie.Need-add-track
-add-track c = search needs
+add-track c = omega arith
 
 slice-write-track-2 : tie.Need-slice-write-track-2
 slice-write-track-2 c = simp length-set (omega arith)
 
 add-track-2 : tie.Need-add-track-2
-add-track-2 c = search needs
+add-track-2 c = omega arith
 
 slice-write-track-3 : tie.Need-slice-write-track-3
 slice-write-track-3 c = simp length-set (omega arith)
 
 add-track-3 : tie.Need-add-track-3
-add-track-3 c = search needs
+add-track-3 c = omega arith
 
 slice-write-track-4 : tie.Need-slice-write-track-4
 slice-write-track-4 c = simp length-set (omega arith)

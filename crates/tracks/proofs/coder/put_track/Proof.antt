@@ -12,13 +12,13 @@ start-of-requires : tie.Need-start-of-requires
 start-of-requires c κs = search needs
 
 slice-write-track : tie.Need-slice-write-track
-slice-write-track c = search needs
+slice-write-track c = omega arith
 
 put-all-requires : tie.Need-put-all-requires
 put-all-requires c κs = simp length-set (omega arith)
 
 sub-track : tie.Need-sub-track
-sub-track c = search needs
+sub-track c = omega arith
 
 slice-write-track-2 : tie.Need-slice-write-track-2
 slice-write-track-2 c = omega (arith, simp length-set at (c .before .before .put-all .kept .1 .1 .0))

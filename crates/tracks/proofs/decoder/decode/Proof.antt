@@ -45,10 +45,10 @@ put-bytes-requires c κs =
     (units .within, (units .bytes, omega arith))
 
 cast-result : tie.Need-cast-result
-cast-result c = search needs
+cast-result c = omega arith
 
 same-length : tie.Need-same-length
-same-length c = search needs
+same-length c = omega arith
 
 returns-3 : tie.Need-returns-3
 unfolding frameOf longest
@@ -65,7 +65,7 @@ returns-3 c =
     (rw zero-add at (decodes-of-4 (args .track .now) (args .frame .now) (first .left) (sym (is-slot-mark .ensures) ∙ second .left) (units .track)))
 
 length-as-requires-2 : tie.Need-length-as-requires-2
-length-as-requires-2 c κs = search needs
+length-as-requires-2 c κs = omega arith
 
 put-bytes-requires-2 : tie.Need-put-bytes-requires-2
 unfolding longest
@@ -77,13 +77,13 @@ put-bytes-requires-2 c κs =
     (units .within, (units .bytes, omega arith))
 
 add-result : tie.Need-add-result
-add-result c = search needs
+add-result c = omega arith
 
 cast-result-2 : tie.Need-cast-result-2
-cast-result-2 c = search needs
+cast-result-2 c = omega arith
 
 same-length-2 : tie.Need-same-length-2
-same-length-2 c = search needs
+same-length-2 c = omega arith
 
 returns-4 : tie.Need-returns-4
 unfolding frameOf longest

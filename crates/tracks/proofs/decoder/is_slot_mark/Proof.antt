@@ -1,6 +1,6 @@
 -- `tracks::decoder::is_slot_mark` meets its contract: the definition goes by the same two tests. Assumes nothing.
-use borrow.Author.Needs.{needs}
 use borrow.Author.Tests.{eq-eqb, ne-eqb}
+use native.Mathlib.Omega.{arith}
 use Rattle.tracks.specs.Decoder.{isSlotMark}
 use Rattle.tracks.proofs.decoder.is_slot_mark.Statement.{statement}
 use Rattle.tracks.proofs.decoder.is_slot_mark.Tie as tie
@@ -10,7 +10,7 @@ unfolding isSlotMark
 returns c = rw (ne-eqb _ _ (c .if1 .taken))
 
 shared-slice-read-result : tie.Need-shared-slice-read-result
-shared-slice-read-result c = search needs
+shared-slice-read-result c = omega arith
 
 returns-2 : tie.Need-returns-2
 unfolding isSlotMark

@@ -1,5 +1,6 @@
 -- `walk::Walk::ask` meets its contract: refused, or what is to be sent, put into the room (AskWays.antt). Assumes nothing.
 use borrow.Author.Needs.{needs}
+use native.Mathlib.Omega.{arith}
 use lib.ListN.{length}
 use Rattle.walk.proofs.Limits.{accepted-of-is-accepted}
 use Rattle.walk.proofs.AskWays.{served-of-refusal, asks-refused, asks-served}
@@ -31,10 +32,10 @@ fill-requires c κs =
     let first = c .before .before .if1 in
     let send = c .before .send in
     let served = served-of-refusal (args .self) (length (args .room .now)) _ (refusal .ensures) (first .left) in
-    (served .accepted, rw (send .ensures) (served .enough))
+    (accepted-of-is-accepted (args .self) (served .accepted) .level, rw (send .ensures) (served .enough))
 
 same-length : tie.Need-same-length
-same-length c = search needs
+same-length c = omega arith
 
 returns-2 : tie.Need-returns-2
 returns-2 c =

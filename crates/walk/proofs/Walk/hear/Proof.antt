@@ -1,5 +1,6 @@
 -- `walk::Walk::hear` meets its contract: refused, or the slot judged and taken (HearWays.antt). Assumes nothing.
 use borrow.Author.Needs.{needs}
+use native.Mathlib.Omega.{arith}
 use lib.ListN.{length}
 use Rattle.walk.proofs.Limits.{accepted-of-is-accepted}
 use Rattle.walk.proofs.HearWays.{served-of-refusal, hears-refused, hears-served}
@@ -9,15 +10,10 @@ use Rattle.walk.proofs.Walk.hear.Tie as tie
 refusal-requires : tie.Need-refusal-requires
 refusal-requires c κs = search needs
 
-refuse-requires : tie.Need-refuse-requires
-refuse-requires c κs = search needs
-
 returns : tie.Need-returns
 returns c =
-    let args = c .before .before .before .before .before .args in
-    let refusal = c .before .before .refusal in
-    let first = c .before .if1 in
-    hears-refused (args .self) (args .kind) (args .bytes .now) (args .list .now) _ _ (refusal .ensures) (first .taken) (c .refuse .ensures)
+    let args = c .before .before .before .before .args in
+    hears-refused (args .self) (args .kind) (args .bytes .now) (args .list .now) _ (c .before .refusal .ensures) (c .if1 .taken)
 
 judge-requires : tie.Need-judge-requires
 judge-requires c κs =
@@ -36,7 +32,7 @@ take-requires c κs =
     (served .accepted, served .list)
 
 same-length : tie.Need-same-length
-same-length c = search needs
+same-length c = omega arith
 
 returns-2 : tie.Need-returns-2
 returns-2 c =
@@ -51,4 +47,4 @@ returns-2 c =
 pub hear-spec : {M : Type 1} → statement M
 hear-spec =
     tie.close
-    (tie.spec refusal-requires refuse-requires returns judge-requires take-requires same-length returns-2)
+    (tie.spec refusal-requires returns judge-requires take-requires same-length returns-2)

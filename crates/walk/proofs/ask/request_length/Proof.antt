@@ -2,13 +2,13 @@
 use borrow.Author.Needs.{needs}
 use mathlib.Core.Path.{sym, _∙_}
 use native.Mathlib.Omega.{arith}
-use Rattle.walk.specs.Record.{maskLength}
+use Rattle.walk.specs.Record.{maskLength, hasFamily}
 use Rattle.walk.proofs.Requests.{mask-bytes-most, length-with-family, length-no-family}
 use Rattle.walk.proofs.ask.request_length.Statement.{statement}
 use Rattle.walk.proofs.ask.request_length.Tie as tie
 
 mul-mask-bytes : tie.Need-mul-mask-bytes
-mul-mask-bytes c = search needs
+mul-mask-bytes c = omega arith
 
 mask-bytes-requires : tie.Need-mask-bytes-requires
 mask-bytes-requires c κs = search needs
@@ -31,7 +31,7 @@ add-result-2 c =
     omega (arith, mask-bytes .ensures, mask-bytes-most (args .walk .level) (asked))
 
 returns : tie.Need-returns
-unfolding maskLength
+unfolding maskLength hasFamily
 returns c =
     let mask-bytes = c .before .before .mask-bytes in
     let args = c .before .before .before .before .args in
@@ -40,7 +40,7 @@ returns c =
     rw (mask-bytes .ensures) (sym (length-with-family (args .walk) (sym (has-family .ensures) ∙ first .taken)))
 
 returns-2 : tie.Need-returns-2
-unfolding maskLength
+unfolding maskLength hasFamily
 returns-2 c =
     let mask-bytes = c .before .before .mask-bytes in
     let args = c .before .before .before .before .args in

@@ -1,6 +1,7 @@
 -- `walk::hear::is_clean` meets its contract: the definition goes by the same four tests. Assumes nothing.
 use borrow.Author.Needs.{needs}
 use borrow.Author.Tests.{eq-eqb, ne-eqb, not-true, not-false}
+use native.Mathlib.Omega.{arith}
 use Rattle.walk.specs.Record.{maskLength}
 use Rattle.walk.specs.Hear.{isClean}
 use Rattle.walk.proofs.hear.is_clean.Statement.{statement}
@@ -22,7 +23,7 @@ returns-2 c =
     rw (eq-eqb _ _ (first .left), ← (is-sealed .ensures), not-true (is-sealed .result) (second .taken))
 
 shared-slice-read-if3 : tie.Need-shared-slice-read-if3
-shared-slice-read-if3 c = search needs
+shared-slice-read-if3 c = omega arith
 
 returns-3 : tie.Need-returns-3
 unfolding isClean maskLength
@@ -37,7 +38,7 @@ uid-of-requires : tie.Need-uid-of-requires
 uid-of-requires c κs = search needs
 
 mul-fits-slot : tie.Need-mul-fits-slot
-mul-fits-slot c = search needs
+mul-fits-slot c = omega arith
 
 fits-slot-requires : tie.Need-fits-slot-requires
 fits-slot-requires c κs = search needs

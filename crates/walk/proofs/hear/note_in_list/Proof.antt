@@ -13,13 +13,13 @@ enum-told-2 : tie.Need-enum-told-2
 enum-told-2 c = search needs
 
 enum-known-slot : tie.Need-enum-known-slot
-enum-known-slot c = search needs
+enum-known-slot c = omega arith
 
 cast-list : tie.Need-cast-list
-cast-list c = search needs
+cast-list c = omega arith
 
 mul-list : tie.Need-mul-list
-mul-list c = search needs
+mul-list c = omega arith
 
 slice-write-list : tie.Need-slice-write-list
 slice-write-list c =

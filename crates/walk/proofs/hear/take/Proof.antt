@@ -1,6 +1,7 @@
 -- `walk::hear::take` meets its contract: ended at once, or noted and passed (HearWays.antt). Assumes nothing.
 use borrow.Author.Needs.{needs}
 use mathlib.Core.Path.{sym, _∙_}
+use native.Mathlib.Omega.{arith}
 use Rattle.walk.proofs.HearWays.{noted-deepest, after-ending, after-passing}
 use Rattle.walk.proofs.hear.take.Statement.{statement}
 use Rattle.walk.proofs.hear.take.Tie as tie
@@ -30,7 +31,7 @@ pass-requires c κs =
     rw (note .ensures) (noted-deepest (args .walk) (args .slot) (asked .0) (sym (ends-at-once .ensures) ∙ first .left))
 
 same-length : tie.Need-same-length
-same-length c = search needs
+same-length c = omega arith
 
 returns-2 : tie.Need-returns-2
 returns-2 c =

@@ -17,16 +17,16 @@ returns c =
     ended .ensures ∙ sym (turned-complete (args .walk) (args .n) (omega (arith, first .taken)))
 
 sub-opened : tie.Need-sub-opened
-sub-opened c = search needs
+sub-opened c = omega arith
 
 cast-opened : tie.Need-cast-opened
-cast-opened c = search needs
+cast-opened c = omega arith
 
 opened-requires : tie.Need-opened-requires
 opened-requires c κs = search needs
 
 ended-requires-2 : tie.Need-ended-requires-2
-ended-requires-2 c κs = search needs
+ended-requires-2 c κs = omega arith
 
 returns-2 : tie.Need-returns-2
 returns-2 c = c .opened .ensures ∙ sym (turned-opened _ _ (c .before .before .before .if1 .left) (c .before .if2 .taken))

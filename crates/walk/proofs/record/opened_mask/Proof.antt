@@ -7,7 +7,7 @@ use Rattle.walk.proofs.record.opened_mask.Statement.{statement}
 use Rattle.walk.proofs.record.opened_mask.Tie as tie
 
 mul-low-bits : tie.Need-mul-low-bits
-mul-low-bits c = search needs
+mul-low-bits c = omega arith
 
 low-bits-requires : tie.Need-low-bits-requires
 low-bits-requires c κs = search needs

@@ -1,5 +1,4 @@
 -- `walk::record::unit` meets its contract: a shift makes the power of two. Assumes nothing.
-use borrow.Author.Needs.{needs}
 use Prim.Native.Nat.{_*_}
 use native.Mathlib.Omega.{arith}
 use Rattle.slots.proofs.Bits.{bit-at}
@@ -9,13 +8,13 @@ use Rattle.walk.proofs.record.unit.Statement.{statement}
 use Rattle.walk.proofs.record.unit.Tie as tie
 
 mul-result : tie.Need-mul-result
-mul-result c = search needs
+mul-result c = omega arith
 
 cast-result : tie.Need-cast-result
-cast-result c = search needs
+cast-result c = omega arith
 
 shl-result : tie.Need-shl-result
-shl-result c = search needs
+shl-result c = omega arith
 
 returns : tie.Need-returns
 unfolding maskLength
