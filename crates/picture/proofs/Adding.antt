@@ -1,0 +1,77 @@
+-- A line's head, what a slot adds, and the twins' line, each put together of its pieces. By the pieces placed one after the other.
+-- Assumes nothing.
+use mathlib.Core.Path.{_≡_, refl, sym, ap, subst, _∙_}
+use mathlib.Core.Bool.{Bool, true, cond, not, _||_}
+use Prim.Native.Nat.{ℕ, _+_, _*_, _%_, _^_, _≤_, _<_}
+use native.Mathlib.Omega.{arith}
+use mathlib.Core.List.{List, [], _∷_, _++_, append-assoc}
+use borrow.Author.Tests.{eq-eqb, ne-eqb}
+use lib.Dec.{eqb}
+use lib.ListN.{length}
+use lib.Pow.{pow-mono}
+use lib.Seq.{append-snoc}
+use Rattle.lent.specs.Puts.{PutsAt}
+use Rattle.walk.specs.declared.Walk.{Walk}
+use Rattle.walk.specs.Record.{maskLength, isRunning, isAccepted}
+use Rattle.walk.proofs.Limits.{Accepted, accepted-of-is-accepted}
+use Rattle.row.specs.declared.Air.{Air}
+use Rattle.row.specs.declared.Desk.{Desk}
+use Rattle.picture.specs.Drawn.{sign, roundShown, tailShown, lineHead, slotDrawn, twinsLine}
+use Rattle.picture.proofs.Placing.{puts-none, puts-then}
+use Rattle.picture.proofs.Lengths.{sign-most}
+
+-- ---- before slot 0
+
+pub head-none : (w : Walk) (at : ℕ) (e : List ℕ) → (w .slot ≡ 0 → ⊥) → PutsAt at (cond (eqb (w .slot) 0) (lineHead w) []) e at e
+head-none w at e h = rw (ne-eqb (w .slot) 0 h) (puts-none at e)
+
+pub head-puts : (w : Walk) {at m r : ℕ} {number tail e f g : List ℕ} → w .slot ≡ 0 → number ≡ roundShown (w .rounds) ++ 0x20 ∷ []
+    → tail ≡ tailShown (w .level) (w .mask) ++ 0x20 ∷ [] → PutsAt at number e m f → PutsAt m tail f r g → m + length tail ≤ length e
+    → PutsAt at (cond (eqb (w .slot) 0) (lineHead w) []) e r g
+unfolding lineHead
+head-puts w {at} {m} {r} {number} {tail} {e} {f} {g} h n t p q k =
+    let shown : List ℕ = roundShown (w .rounds) in
+    let calls : List ℕ = tailShown (w .level) (w .mask) in
+    let whole : number ++ tail ≡ shown ++ 0x20 ∷ calls ++ 0x20 ∷ [] =
+    (λ i. n i ++ t i) ∙ sym (append-assoc (shown ++ 0x20 ∷ []) calls (0x20 ∷ [])) ∙ ap (λ (l : List ℕ). l ++ 0x20 ∷ []) (append-snoc shown 0x20 calls) in
+    rw (eq-eqb (w .slot) 0 h) (subst (λ (s : List ℕ). PutsAt at s e r g) whole (puts-then p q k))
+
+-- ---- a slot
+
+pub slot-puts : (w next : Walk) (air : Air) {at m r a : ℕ} {ends : Bool} {e f g : List ℕ} → a ≡ sign air
+    → ends ≡ (eqb (w .slot) 15 || not (isRunning next)) → PutsAt at (cond (eqb (w .slot) 0) (lineHead w) []) e m f
+    → PutsAt m (a ∷ cond ends (0x0a ∷ []) []) f r g → m + 2 ≤ length e → PutsAt at (slotDrawn w air next) e r g
+unfolding slotDrawn
+slot-puts w next air {at} {m} {r} {a} {ends} {e} {f} {g} s t p q h =
+    subst (λ (l : List ℕ). PutsAt at l e r g) (λ i. cond (eqb (w .slot) 0) (lineHead w) [] ++ s i ∷ cond (t i) (0x0a ∷ []) [])
+    (puts-then p q (omega (arith, h, sign-most a ends)))
+
+-- ---- the twins' line
+
+-- the slot digit above fifteen digits: 64 bits
+pub record Above (w : Walk) : Type 0 where
+  pub shifted : w .slot * 2 ^ 60 % 2 ^ 64 ≡ w .slot * 2 ^ 60
+  pub fits : w .slot * 2 ^ 60 + w .mask < 2 ^ 64
+
+pub digit-above : (w : Walk) → isAccepted w ≡ true → Above w
+unfolding maskLength
+digit-above w e =
+    let a : Accepted w = accepted-of-is-accepted w e in
+    let most : 2 ^ (4 * w .level) ≤ 2 ^ 60 = pow-mono {i = 4 * w .level} {j = 60} (omega (arith, a .level)) in
+    let mask : w .mask < 2 ^ 60 = omega (arith, most, a .mask) in
+    record { shifted = omega (arith, a .slot); fits = omega (arith, mask, a .slot) }
+
+pub twins-none : (d : Desk) (at : ℕ) (e : List ℕ) → (d .walk .ending ≡ 2 → ⊥) → PutsAt at (twinsLine d) e at e
+unfolding twinsLine
+twins-none d at e h = rw (ne-eqb (d .walk .ending) 2 h) (puts-none at e)
+
+pub twins-puts : (d : Desk) {at m r : ℕ} {tail e f g : List ℕ} → isAccepted (d .walk) ≡ true → d .walk .ending ≡ 2
+    → tail ≡ tailShown 16 (d .walk .slot * 2 ^ 60 % 2 ^ 64 + d .walk .mask) ++ 0x0a ∷ []
+    → PutsAt at (0x74 ∷ 0x77 ∷ 0x69 ∷ 0x6e ∷ 0x73 ∷ 0x20 ∷ []) e m f → PutsAt m tail f r g → m + length tail ≤ length e
+    → PutsAt at (twinsLine d) e r g
+unfolding twinsLine
+twins-puts d {at} {m} {r} {tail} {e} {f} {g} accepted h t p q k =
+    let uid : tail ≡ tailShown 16 (d .walk .slot * 2 ^ 60 + d .walk .mask) ++ 0x0a ∷ [] =
+    t ∙ ap (λ (n : ℕ). tailShown 16 (n + d .walk .mask) ++ 0x0a ∷ []) (digit-above (d .walk) accepted .shifted) in
+    rw (eq-eqb (d .walk .ending) 2 h)
+    (subst (λ (l : List ℕ). PutsAt at (0x74 ∷ 0x77 ∷ 0x69 ∷ 0x6e ∷ 0x73 ∷ 0x20 ∷ l) e r g) uid (puts-then p q k))

@@ -1,0 +1,11 @@
+mod Pieces
+mod Placing
+mod Lengths
+mod Adding
+mod Moves
+pub mod Most
+mod OneSlot
+mod Slots
+mod Printed
+mod Ways
+pub mod Unique

@@ -1,0 +1,28 @@
+-- `picture::line::digit` meets its contract, by its one test. Assumes nothing.
+use native.Mathlib.Omega.{arith}
+use borrow.Author.Needs.{needs}
+use Rattle.picture.proofs.Pieces.{digit-decimal, digit-letter}
+use Rattle.picture.proofs.line.digit.Statement.{statement}
+use Rattle.picture.proofs.line.digit.Tie as tie
+
+cast-result : tie.Need-cast-result
+cast-result c = search needs
+
+add-result : tie.Need-add-result
+add-result c = search needs
+
+cast-result-2 : tie.Need-cast-result-2
+cast-result-2 c = search needs
+
+add-result-2 : tie.Need-add-result-2
+add-result-2 c = search needs
+
+returns : tie.Need-returns
+returns c = digit-decimal _ (omega arith)
+
+returns-2 : tie.Need-returns-2
+returns-2 c = digit-letter _ (omega arith)
+
+pub digit-spec : {M : Type 1} → statement M
+digit-spec =
+    tie.close (tie.spec cast-result add-result cast-result-2 add-result-2 returns returns-2)

@@ -1,0 +1,96 @@
+// The pieces of a line, as bytes.
+ghost use mathlib.Core.Path.{_≡_};
+ghost use mathlib.Core.Bool.{not, _||_};
+ghost use mathlib.Core.List.{[], _∷_, _++_};
+ghost use Prim.Native.Nat.{_<_, _≤_};
+ghost use lib.Dec.{eqb};
+ghost use lib.ListN.{getD};
+ghost use Rattle.walk.specs.Record.{isRunning};
+ghost use Rattle.rack.specs.Output.{digit};
+ghost use Rattle.picture.specs.Drawn.{sign, roundShown, tailShown};
+use row::Air;
+use walk::Walk;
+
+// No card answers, one does, two or more do.
+pub(crate) fn sign(air: Air) -> u8
+    ensures { λ r. ⌜ r ≡ sign air ⌝ }
+{
+    if air.answers == 0 {
+        return b'.';
+    }
+    if air.answers == 1 {
+        return b'o';
+    }
+    b'#'
+}
+
+// Whether a line ends with a slot: its last, or the walk's.
+pub(crate) fn ends_line(walk: Walk, next: Walk) -> bool
+    ensures { λ r. ⌜ r ≡ (eqb (walk .slot) 15 || not (isRunning next)) ⌝ }
+{
+    if walk.slot == 15 {
+        true
+    } else {
+        next.ending != 0
+    }
+}
+
+// The byte of a digit, upper-case.
+fn digit(d: u64) -> u8
+    requires { ⌜ d < 16 ⌝ }
+    ensures { λ r. ⌜ r ≡ digit d ⌝ }
+{
+    if d < 10 {
+        b'0' + (d as u8)
+    } else {
+        b'A' + ((d - 10) as u8)
+    }
+}
+
+// A round's number and a space.
+pub(crate) fn round(n: u64) -> [u8; 6]
+    requires { ⌜ n < 1000 ⌝ }
+    ensures { λ r. ⌜ r ≡ roundShown n ++ 0x20 ∷ [] ⌝ }
+{
+    if n < 10 {
+        return [b' ', b' ', b' ', b' ', digit(n), b' '];
+    }
+    if n < 100 {
+        return [b' ', b' ', b' ', digit(n / 10), digit(n % 10), b' '];
+    }
+    [
+        b' ',
+        b' ',
+        digit(n / 100),
+        digit(n / 10 % 10),
+        digit(n % 10),
+        b' ',
+    ]
+}
+
+// One place of a tail: a digit that is free, or one of the mask.
+fn tail_byte(level: usize, mask: u64, i: usize) -> u8
+    requires { ⌜ level ≤ 16 ⌝ }
+    requires { ⌜ i < 16 ⌝ }
+    ensures { λ r. ⌜ r ≡ getD (tailShown level mask) i 0 ⌝ }
+{
+    if i + level < 16 {
+        return b'-';
+    }
+    let shift = 60 - 4 * i;
+    digit((mask >> shift) % 16)
+}
+
+// A tail and the byte after it.
+pub(crate) fn tail(level: usize, mask: u64, end: u8) -> [u8; 17]
+    requires { ⌜ level ≤ 16 ⌝ }
+    ensures { λ r. ⌜ r ≡ tailShown level mask ++ end ∷ [] ⌝ }
+{
+    let mut bytes = [end; 17];
+    let mut i = 0;
+    while i < 16 {
+        bytes[i] = tail_byte(level, mask, i);
+        i += 1;
+    }
+    bytes
+}
