@@ -8,7 +8,7 @@ INCLUDEDIR ?= $(PREFIX)/include
 MANDIR ?= $(PREFIX)/share/man
 
 # The programs that are installed: target/bin/NAME as espenknoten-NAME, with the page docs/man/espenknoten-NAME.1.
-programs := bench player
+programs := bench draw player
 
 lib := target/staticlib/libboard.a
 c99 := -std=c99 -Wall -Wextra -Werror -pedantic
