@@ -36,6 +36,13 @@ shape-of blocks size e =
       room-most = mul-le-mul most more;
     }
 
+-- the products of any two numbers of 32 bits have room in 64
+pub products-fit : (blocks size : ℕ) → blocks ≤ 4294967295 → size ≤ 4294967295
+    → (blocks * size ≤ 18446744065119617025) × (blocks * (size + 1) ≤ 18446744069414584320)
+products-fit blocks size b s =
+    let more : size + 1 ≤ 4294967296 = omega arith in
+    (mul-le-mul b s, mul-le-mul b more)
+
 pub accepted-shape : (c : Card) → isAccepted c ≡ true → shapeFits (c .blocks) (c .size) ≡ true
 unfolding isAccepted
 accepted-shape c e = and-eq-true-iff (shapeFits (c .blocks) (c .size)) (sequenceFits (c .sequence) && heldFits (c .held)) .0 e .0

@@ -1,10 +1,9 @@
--- `play::refusal::lengths_fit` meets its contract, by its two tests; the product is small since the shape fits.
--- Assumes nothing.
+-- `play::refusal::lengths_fit` meets its contract, by its two tests; the product of two numbers of 32 bits fits. Assumes nothing.
 use borrow.Author.Needs.{needs}
 use native.Mathlib.Omega.{arith}
 use borrow.Author.Tests.{eq-eqb, ne-eqb}
 use Rattle.play.specs.Refusal.{lengthsFit}
-use Rattle.play.proofs.Shape.{shape-of}
+use Rattle.play.proofs.Shape.{products-fit}
 use Rattle.play.proofs.refusal.lengths_fit.Statement.{statement}
 use Rattle.play.proofs.refusal.lengths_fit.Tie as tie
 
@@ -15,7 +14,7 @@ cast-size : tie.Need-cast-size
 cast-size c = search needs
 
 mul-if1 : tie.Need-mul-if1
-mul-if1 c = omega (arith, shape-of _ _ (c .before .before .pre))
+mul-if1 c = omega (arith, products-fit (c .before .before .args .card .blocks) (c .before .before .args .card .size) (omega arith) (omega arith))
 
 returns : tie.Need-returns
 unfolding lengthsFit

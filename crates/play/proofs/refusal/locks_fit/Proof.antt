@@ -1,33 +1,31 @@
--- `play::refusal::locks_fit` meets its contract. The loop's invariant: what is left of the lock bytes decides.
+-- `play::refusal::locks_fit` meets its contract. The loop's invariant: the highest byte so far and what is left of the lock bytes decide.
 -- The measure is how many are left. Assumes nothing.
+use borrow.Author.Needs.{needs}
 use native.Mathlib.Omega.{arith}
-use mathlib.Core.Path.{_≡_, refl, sym, _∙_}
+use mathlib.Core.Path.{_≡_, refl}
+use mathlib.Core.Bool.{_&&_}
 use Prim.Native.Nat.{_-_, _≤_}
+use lib.Dec.{leb}
 use lib.ListN.{length, drop}
-use Rattle.play.proofs.Locks.{locks-over, locks-next, locks-past}
 use Rattle.play.specs.Refusal.{locksFit}
+use Rattle.play.proofs.Locks.{locks-next, locks-past}
 use Rattle.play.proofs.refusal.locks_fit.Statement.{statement}
 use Rattle.play.proofs.refusal.locks_fit.Tie as tie
 
 abbrev Inv-loop : tie.InvT-loop
-Inv-loop locks i₀ i = (i ≤ length locks) × (locksFit (drop i locks) ≡ locksFit locks)
+Inv-loop locks highest₀ i₀ highest i = (i ≤ length locks) × ((leb highest 1 && locksFit (drop i locks)) ≡ locksFit locks)
 
 abbrev μ-loop : tie.MeasureT-loop
-μ-loop locks i₀ i = length locks - i
+μ-loop locks highest₀ i₀ highest i = length locks - i
 
 loop-holds : tie.Need-loop-holds Inv-loop μ-loop
 loop-holds c = (omega arith, refl)
 
-shared-slice-read-if1 : tie.Need-shared-slice-read-if1 Inv-loop μ-loop
-shared-slice-read-if1 c = omega arith
+shared-slice-read-higher : tie.Need-shared-slice-read-higher Inv-loop μ-loop
+shared-slice-read-higher c = omega arith
 
-returns : tie.Need-returns Inv-loop μ-loop
-returns c =
-    let args = c .before .before .before .before .args in
-    let loop = c .before .before .before .loop in
-    let test = c .before .before .loop-test in
-    let if1 = c .if1 in
-    sym (locks-over (args .locks .now) (loop .i) (test .taken) (if1 .taken)) ∙ loop .inv .1
+higher-requires : tie.Need-higher-requires Inv-loop μ-loop
+higher-requires c κs = search needs
 
 add-i : tie.Need-add-i Inv-loop μ-loop
 add-i c = omega arith
@@ -37,18 +35,15 @@ loop-less c = omega arith
 
 loop-again : tie.Need-loop-again Inv-loop μ-loop
 loop-again c =
-    let args = c .before .before .before .before .args in
+    let args = c .before .before .before .before .before .args in
     let loop = c .before .before .before .loop in
-    let test = c .before .before .loop-test in
-    let if1 = c .if1 in
-    (omega arith, locks-next (args .locks .now) (loop .i) (test .taken) (if1 .left) ∙ loop .inv .1)
+    let higher = c .higher in
+    (omega arith, locks-next (args .locks .now) (loop .i) (loop .highest) (higher .result) (c .before .before .loop-test .taken) (higher .ensures) (loop .inv .1))
 
-returns-2 : tie.Need-returns-2 Inv-loop μ-loop
-returns-2 c =
-    let args = c .before .before .args in
+returns : tie.Need-returns Inv-loop μ-loop
+returns c =
     let loop = c .before .loop in
-    let test = c .loop-test in
-    sym (locks-past (args .locks .now) (loop .i) (test .left)) ∙ loop .inv .1
+    locks-past (c .before .before .before .args .locks .now) (loop .i) (loop .highest) (c .loop-test .left) (loop .inv .1)
 
 pub locks-fit-spec : {M : Type 1} → statement M
 locks-fit-spec =
@@ -57,9 +52,9 @@ locks-fit-spec =
     Inv-loop
     μ-loop
     loop-holds
-    shared-slice-read-if1
-    returns
+    shared-slice-read-higher
+    higher-requires
     add-i
     loop-less
     loop-again
-    returns-2)
+    returns)

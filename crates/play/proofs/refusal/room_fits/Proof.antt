@@ -1,10 +1,9 @@
--- `play::refusal::room_fits` meets its contract, by its two tests; the product is small since the shape fits.
--- Assumes nothing.
+-- `play::refusal::room_fits` meets its contract, by its two tests; the product of two numbers of 32 bits fits. Assumes nothing.
 use borrow.Author.Needs.{needs}
 use native.Mathlib.Omega.{arith}
 use borrow.Author.Tests.{le-leb, lt-leb}
 use Rattle.play.specs.Refusal.{roomFits}
-use Rattle.play.proofs.Shape.{shape-of}
+use Rattle.play.proofs.Shape.{products-fit}
 use Rattle.play.proofs.refusal.room_fits.Statement.{statement}
 use Rattle.play.proofs.refusal.room_fits.Tie as tie
 
@@ -22,10 +21,10 @@ add-result : tie.Need-add-result
 add-result c = search needs
 
 mul-result : tie.Need-mul-result
-mul-result c = omega (arith, shape-of _ _ (c .before .before .before .pre))
+mul-result c = omega (arith, products-fit (c .before .before .before .args .card .blocks) (c .before .before .before .args .card .size) (omega arith) (omega arith))
 
 add-result-2 : tie.Need-add-result-2
-add-result-2 c = omega (arith, shape-of _ _ (c .before .before .before .pre))
+add-result-2 c = omega (arith, products-fit (c .before .before .before .args .card .blocks) (c .before .before .before .args .card .size) (omega arith) (omega arith))
 
 returns-2 : tie.Need-returns-2
 unfolding roomFits
