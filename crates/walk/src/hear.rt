@@ -5,7 +5,7 @@ ghost use Prim.Native.Nat.{_<_, _≤_};
 ghost use lib.ListN.{length};
 ghost use Rattle.walk.specs.Marks.{deepest};
 ghost use Rattle.walk.specs.Record.{isAccepted};
-ghost use Rattle.walk.specs.Hear.{uidOf, isClean, judged, endsAtOnce, noted, listNoted, turned, passed, walkAfter, listAfter, refusal, hearing, After, Hears};
+ghost use Rattle.walk.specs.Hear.{uidOf, isClean, judged, endsAtOnce, noted, listNoted, passed, walkAfter, listAfter, refusal, hearing, After, Hears};
 use crate::Heard;
 use crate::Kind;
 use crate::Slot;
@@ -62,37 +62,33 @@ fn ends_at_once(walk: Walk, slot: Slot) -> u8
     }
 }
 
-fn note(walk: Walk, slot: Slot) -> Walk
+// The slot in the walk's marks or its list.
+fn note(walk: Walk, slot: Slot, list: &mut [u64]) -> Walk
     requires { ⌜ isAccepted walk ≡ true ⌝ }
     requires { ⌜ endsAtOnce walk slot ≡ 0 ⌝ }
-    ensures { λ r. ⌜ r ≡ noted walk slot ⌝ }
+    requires { ⌜ 64 ≤ length (now list) ⌝ }
+    ensures { λ r. ⌜ After (noted walk slot) (listNoted walk slot (now (list .entry))) r (now (list .exit)) ⌝ }
 {
     match slot {
         Slot::Silent => walk,
         Slot::Clashed => walk.marked(),
-        Slot::Clean(_) => walk.counted(),
-    }
-}
-
-fn note_in_list(walk: Walk, slot: Slot, list: &mut [u64])
-    requires { ⌜ endsAtOnce walk slot ≡ 0 ⌝ }
-    requires { ⌜ 64 ≤ length (now list) ⌝ }
-    ensures { λ _. ⌜ now (list .exit) ≡ listNoted walk slot (now (list .entry)) ⌝ }
-{
-    match slot {
-        Slot::Silent => {}
-        Slot::Clashed => {}
         Slot::Clean(uid) => {
             list[walk.count as usize] = uid;
+            walk.counted()
         }
     }
 }
 
-// After slot 15: n is one more than the deepest level where a clash waits, or 0.
-fn turn(walk: Walk, n: usize) -> Walk
-    requires { ⌜ n < 16 ⌝ }
-    ensures { λ r. ⌜ r ≡ turned walk n ⌝ }
+// On to the next slot; after slot 15 the walk opens a clash of the deepest level where one waits, or ends.
+fn pass(walk: Walk) -> Walk
+    requires { ⌜ deepest (walk .marks) < 16 ⌝ }
+    ensures { λ r. ⌜ r ≡ passed walk ⌝ }
 {
+    if walk.slot < 15 {
+        return walk.at_next_slot();
+    }
+    let marks = walk.marks;
+    let n = deepest(marks);
     if n == 0 {
         return walk.ended(1);
     }
@@ -101,17 +97,6 @@ fn turn(walk: Walk, n: usize) -> Walk
     } else {
         walk.ended(4)
     }
-}
-
-fn pass(walk: Walk) -> Walk
-    requires { ⌜ deepest (walk .marks) < 16 ⌝ }
-    ensures { λ r. ⌜ r ≡ passed walk ⌝ }
-{
-    let marks = walk.marks;
-    if walk.slot < 15 {
-        return walk.at_next_slot();
-    }
-    turn(walk, deepest(marks))
 }
 
 fn refusal(walk: Walk, room: usize) -> u8
@@ -136,8 +121,7 @@ fn take(walk: Walk, slot: Slot, list: &mut [u64]) -> Walk
     if ending != 0 {
         return walk.ended(ending);
     }
-    note_in_list(walk, slot, list);
-    pass(note(walk, slot))
+    pass(note(walk, slot, list))
 }
 
 impl Walk {

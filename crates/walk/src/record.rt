@@ -109,7 +109,7 @@ impl Walk {
     // Opens the lowest slot that waits at level j.
     pub(crate) fn opened(mut self, j: u8) -> Walk
         requires { ⌜ j < 15 ⌝ }
-        requires { ⌜ self .rounds < 481 ⌝ }
+        requires { ⌜ self .rounds < 65000 ⌝ }
         ensures { λ r. ⌜ r ≡ opened self j ⌝ }
     {
         let mut marks = self.marks;

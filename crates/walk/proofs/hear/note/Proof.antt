@@ -1,7 +1,8 @@
 -- `walk::hear::note` meets its contract, by the slot; what it asks for follows from a slot that ends nothing at once. Assumes nothing.
 use borrow.Author.Needs.{needs}
+use mathlib.Core.Path.{refl}
 use native.Mathlib.Omega.{arith}
-use Rattle.walk.specs.Hear.{noted}
+use Rattle.walk.specs.Hear.{noted, listNoted}
 use Rattle.walk.proofs.Limits.{accepted-of-is-accepted}
 use Rattle.walk.proofs.HearWays.{clean-goes-on}
 use Rattle.walk.proofs.hear.note.Statement.{statement}
@@ -15,28 +16,45 @@ enum-told-2 c = search needs
 
 marked-requires : tie.Need-marked-requires
 marked-requires c κs =
-    let args = c .before .before .args in
-    let asked = c .before .before .pre in
-    let facts = accepted-of-is-accepted (args .walk) (asked .0) in
+    let start = c .before .before .before in
+    let facts = accepted-of-is-accepted (start .args .walk) (start .pre .0) in
     (facts .level, omega (arith, facts .slot))
 
-enum-told-3 : tie.Need-enum-told-3
-enum-told-3 c = search needs
+enum-known-slot : tie.Need-enum-known-slot
+enum-known-slot c = omega arith
+
+cast-list : tie.Need-cast-list
+cast-list c = omega arith
+
+mul-list : tie.Need-mul-list
+mul-list c = omega arith
+
+slice-write-list : tie.Need-slice-write-list
+slice-write-list c =
+    let start = c .before .before .before .before .before in
+    omega (arith, clean-goes-on (start .args .walk) (c .before .before .slot .given .1) (start .pre .1 .0), start .pre .1 .1)
 
 counted-requires : tie.Need-counted-requires
-counted-requires c κs = clean-goes-on (c .before .before .args .walk) (c .enum-told3 .given .1) (c .before .before .pre .1)
+counted-requires c κs = clean-goes-on (c .before .before .before .before .before .args .walk) (c .before .before .slot .given .1) (c .before .before .before .before .before .pre .1 .0)
 
 returns : tie.Need-returns
-unfolding noted
-returns c = rw (c .enum-told .given .1)
+unfolding noted listNoted
+returns c = record { walk-left = rw (c .enum-told .given .1); list-left = rw (c .enum-told .given .1) }
 
 returns-2 : tie.Need-returns-2
-unfolding noted
-returns-2 c = rw (c .before .enum-told2 .given .1) (c .marked .ensures)
+unfolding noted listNoted
+returns-2 c =
+    let told = c .before .enum-told2 .given .1 in
+    record { walk-left = rw told (c .marked .ensures); list-left = rw told }
+
+same-length : tie.Need-same-length
+same-length c = search needs
 
 returns-3 : tie.Need-returns-3
-unfolding noted
-returns-3 c = rw (c .before .enum-told3 .given .1) (c .counted .ensures)
+unfolding noted listNoted
+returns-3 c =
+    let told = c .before .before .before .slot .given .1 in
+    record { walk-left = rw told (c .counted .ensures); list-left = rw told }
 
 pub note-spec : {M : Type 1} → statement M
 note-spec =
@@ -45,8 +63,12 @@ note-spec =
     enum-told
     enum-told-2
     marked-requires
-    enum-told-3
+    enum-known-slot
+    cast-list
+    mul-list
+    slice-write-list
     counted-requires
     returns
     returns-2
+    same-length
     returns-3)

@@ -15,34 +15,24 @@ ended-requires c κs = search needs
 returns : tie.Need-returns
 returns c = after-ending _ _ _ _ _ (c .before .before .ends-at-once .ensures) (c .before .if1 .taken) (c .ended .ensures)
 
-note-in-list-requires : tie.Need-note-in-list-requires
-note-in-list-requires c κs = search needs
-
 note-requires : tie.Need-note-requires
 note-requires c κs = search needs
 
 pass-requires : tie.Need-pass-requires
 pass-requires c κs =
-    let args = c .before .before .before .before .before .before .before .before .args in
-    let note = c .note in
-    let asked = c .before .before .before .before .before .before .before .before .pre in
-    let ends-at-once = c .before .before .before .before .before .before .ends-at-once in
-    let first = c .before .before .before .before .before .if1 in
-    rw (note .ensures) (noted-deepest (args .walk) (args .slot) (asked .0) (sym (ends-at-once .ensures) ∙ first .left))
+    let start = c .before .before .before .before .before .before .before in
+    let goes-on = sym (c .before .before .before .before .before .ends-at-once .ensures) ∙ c .before .before .before .before .if1 .left in
+    rw (c .before .before .note .ensures .walk-left) (noted-deepest (start .args .walk) (start .args .slot) (start .pre .0) goes-on)
 
 same-length : tie.Need-same-length
 same-length c = omega arith
 
 returns-2 : tie.Need-returns-2
 returns-2 c =
-    let args = c .before .before .before .before .before .before .before .before .before .args in
-    let ends-at-once = c .before .before .before .before .before .before .before .ends-at-once in
-    let first = c .before .before .before .before .before .before .if1 in
-    let note = c .before .note in
-    let pass = c .pass in
-    let note-in-list = c .before .before .before .before .note-in-list in
-    let goes-on = sym (ends-at-once .ensures) ∙ first .left in
-    after-passing (args .walk) (args .slot) (args .list .now) _ _ goes-on (rw (← (note .ensures)) (pass .ensures)) (note-in-list .ensures)
+    let args = c .before .before .before .before .before .before .before .before .args in
+    let note = c .before .before .before .note .ensures in
+    let goes-on = sym (c .before .before .before .before .before .before .ends-at-once .ensures) ∙ c .before .before .before .before .before .if1 .left in
+    after-passing (args .walk) (args .slot) (args .list .now) _ _ goes-on (rw (← (note .walk-left)) (c .pass .ensures)) (note .list-left)
 
 pub take-spec : {M : Type 1} → statement M
 take-spec =
@@ -51,7 +41,6 @@ take-spec =
     ends-at-once-requires
     ended-requires
     returns
-    note-in-list-requires
     note-requires
     pass-requires
     same-length
