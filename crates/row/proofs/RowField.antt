@@ -12,7 +12,7 @@ use denote.Struct.Laws as LL
 use Rattle.card.specs.declared.Card.{Card}
 use Rattle.card.proofs.Card as C°
 use Rattle.card.proofs.Card.Laws as C′
-use Rattle.row.proofs.Values.{cardVals, rowVals}
+use Rattle.row.proofs.Values.{rowVals}
 
 abbrev tuples : List Card → List (C°.the-field .row .Denot)
 tuples cs = map (C°.the-field .into) cs

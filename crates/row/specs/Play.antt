@@ -10,7 +10,7 @@ use Rattle.walk.specs.Record.{started, isRunning}
 use Rattle.row.specs.declared.Air.{Air}
 use Rattle.row.specs.declared.Desk.{Desk}
 use Rattle.row.specs.declared.Slotted.{Slotted}
-use Rattle.row.specs.Row.{stillAir, rowAir, rowAfter, deskAfter, Played, cardsOf, playedFor}
+use Rattle.row.specs.Row.{stillAir, rowAir, rowAfter, deskAfter, cardsOf, playedFor}
 
 -- a list of 64 places, all 0
 unfoldable pub noUids : List ℕ

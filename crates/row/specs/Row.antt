@@ -1,6 +1,6 @@
 -- 01, The walk: "The bench's cards stand in one lent row, 0 to 100 of them."
 use Prim.Native.Nat.{ℕ, zero, suc}
-use mathlib.Core.Bool.{Bool, true, false, cond}
+use mathlib.Core.Bool.{false, cond}
 use mathlib.Core.List.{List, [], _∷_}
 use mathlib.Core.Path.{_≡_}
 use lib.Dec.{leb, eqb}
@@ -22,9 +22,8 @@ use Rattle.walk.specs.declared.Kind.{Kind}
 use Rattle.walk.specs.declared.Kind.the-variants as kind
 use Rattle.walk.specs.declared.Send.{Send}
 use Rattle.walk.specs.declared.Send.the-variants.{Nothing, Mark, Request}
-use Rattle.walk.specs.Record.{started}
 use Rattle.walk.specs.Hear.{Hearing, hearing}
-use Rattle.walk.specs.Ask.{Asking, asking}
+use Rattle.walk.specs.Ask.{asking}
 use Rattle.row.specs.declared.Air.{Air}
 use Rattle.row.specs.declared.Desk.{Desk}
 use Rattle.row.specs.declared.Sent.{Sent}

@@ -1,7 +1,7 @@
 // The walk with its list, slot after slot over the row.
 ghost use mathlib.Core.Path.{_≡_};
 ghost use lib.ListN.{take};
-ghost use Rattle.row.specs.Row.{airKind, deskAfter, cardsOf};
+ghost use Rattle.row.specs.Row.{airKind, airBytes, deskAfter, cardsOf};
 ghost use Rattle.row.specs.Play.{freshDesk, slotted, goesOn, ended};
 use crate::Air;
 use crate::Desk;
@@ -48,14 +48,22 @@ fn kind_of(air: Air) -> Kind
     Kind::Clash
 }
 
-// The answer in the air reaches the walk.
-pub fn hear(desk: Desk, air: Air) -> Desk
-    ensures { λ r. ⌜ r ≡ deskAfter desk air ⌝ }
+// The bytes of the answer in the air.
+fn answer(air: Air) -> [u8; 12]
+    ensures { λ r. ⌜ r ≡ airBytes air ⌝ }
 {
     let mut bytes = [0u8; 12];
     bytes[1] = air.dsfid;
     frames::put_field(&mut bytes, 2, 8, air.uid);
     frames::seal(&mut bytes, 10);
+    bytes
+}
+
+// The answer in the air reaches the walk.
+pub fn hear(desk: Desk, air: Air) -> Desk
+    ensures { λ r. ⌜ r ≡ deskAfter desk air ⌝ }
+{
+    let bytes = answer(air);
     let walk = desk.walk;
     let mut list = desk.list;
     let heard = walk.hear(kind_of(air), &bytes, &mut list);

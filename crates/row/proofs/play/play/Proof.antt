@@ -1,8 +1,7 @@
 -- `row::play::play` meets its contract. The loop's invariant: the slots that are left, played from here, end where all of them end (Played.antt).
 -- The measure is how many slots are left. Assumes nothing.
 use native.Mathlib.Omega.{arith}
-use borrow.Author.Needs.{needs}
-use Prim.Native.Nat.{_-_, _<_}
+use Prim.Native.Nat.{_-_}
 use mathlib.Core.Path.{sym, _∙_}
 use lib.ListN.{take}
 use Rattle.row.proofs.Played.{Playing, endOf, playing-none, end-of-dealt, playing-more, playing-over, still-few}
