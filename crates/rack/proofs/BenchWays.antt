@@ -1,23 +1,24 @@
 -- The ways out of the bench: room short, a wrong line, the report. No line past 101 is told. By what reading finds.
 -- Assumes nothing.
-use mathlib.Core.Path.{_≡_, refl, sym, ap, subst, _∙_}
+use mathlib.Core.Path.{_≡_, refl, sym, ap, subst}
 use mathlib.Core.Bool.{Bool, true, false, cond, _&&_}
 use mathlib.Core.List.{List, [], _∷_}
 use Prim.Native.Nat.{ℕ, suc, _≤_, _<_}
+use native.Mathlib.Decide.{ℕ-discrete}
 use native.Mathlib.Omega.{arith}
 use borrow.Author.Tests.{leb-true, lt-leb, le-leb, eq-eqb, ne-eqb}
-use lib.Dec.{leb, eqb}
-use lib.IntN.{ℤ, pos}
+use lib.Dec.{leb}
+use lib.IntN.{pos}
 use lib.ListN.{length, take}
 use Rattle.lent.specs.Lent.{refused}
 use Rattle.lent.specs.Puts.{Puts}
 use Rattle.row.specs.declared.Desk.{Desk}
 use Rattle.row.specs.Play.{ended}
 use Rattle.rack.specs.declared.input.Lines.{Lines}
-use Rattle.rack.specs.Input.{isUid, lines, badFrom, badLine, uids}
+use Rattle.rack.specs.Input.{isUid, lines, badFrom, badLine}
 use Rattle.rack.specs.Lines.{freshLines, readFrom}
 use Rattle.rack.specs.Output.{report, complaint}
-use Rattle.rack.specs.Bench.{printed, mostPrinted, benchAnswer, benchLeaves, Prints}
+use Rattle.rack.specs.Bench.{printed, answerTo, mostPrinted, benchAnswer, benchLeaves, Prints}
 use Rattle.rack.proofs.Reading.{Reads, reads-input}
 
 -- ---- the number of a wrong line
@@ -43,28 +44,39 @@ bad-line-most input s e =
     let is : s .bad ≡ badLine input = reads input s e .bad in
     rw is (bad-most 1 (lines input) (omega arith))
 
--- ---- the three ways out
+-- what is printed of the lines is what is printed of the input
+pub answer-printed : (input : List ℕ) (s : Lines) → s ≡ readFrom freshLines input → answerTo s ≡ printed input
+unfolding answerTo printed
+answer-printed input s e = go (ℕ-discrete (s .bad) 0)
+  where
+    found : Reads input s
+    found = reads input s e
+
+    go : Dec (s .bad ≡ 0) → answerTo s ≡ printed input
+    go (yes fine) = rw (← (found .bad), eq-eqb (s .bad) 0 fine, found .listed fine)
+    go (no bad) = rw (← (found .bad), ne-eqb (s .bad) 0 bad)
+
+-- ---- the ways out
 
 pub prints-short : (input room : List ℕ) → length room < 1200 → Prints input room (refused 8) room
 unfolding benchAnswer benchLeaves mostPrinted
 prints-short input room h = record { answer = rw (lt-leb 1200 (length room) h); leaves = rw (lt-leb 1200 (length room) h) }
 
-prints-all : (input room left : List ℕ) (n : ℕ) → 1200 ≤ length room → Puts (printed input) room n left → Prints input room (pos n) left
+pub prints-all : (input room left : List ℕ) (s : Lines) (n : ℕ) → s ≡ readFrom freshLines input → 1200 ≤ length room → Puts (answerTo s) room n left
+    → Prints input room (pos n) left
 unfolding benchAnswer benchLeaves mostPrinted
-prints-all input room left n h p =
-    record { answer = rw (le-leb 1200 (length room) h) (ap pos (p .count)); leaves = rw (le-leb 1200 (length room) h) (p .leaves) }
+prints-all input room left s n is h p =
+    let same : answerTo s ≡ printed input = answer-printed input s is in
+    record {
+      answer = rw (le-leb 1200 (length room) h, ← same) (ap pos (p .count));
+      leaves = rw (le-leb 1200 (length room) h, ← same) (p .leaves);
+    }
 
-pub prints-complaint : (input room left : List ℕ) (s : Lines) (n : ℕ) → s ≡ readFrom freshLines input → (s .bad ≡ 0 → ⊥) → 1200 ≤ length room
-    → Puts (complaint (s .bad)) room n left → Prints input room (pos n) left
-unfolding printed
-prints-complaint input room left s n k bad h p =
-    let is : printed input ≡ complaint (s .bad) = rw (← (reads input s k .bad), ne-eqb (s .bad) 0 bad) in
-    prints-all input room left n h (rw is p)
+pub answer-complaint : (s : Lines) {n : ℕ} {room left : List ℕ} → (s .bad ≡ 0 → ⊥) → Puts (complaint (s .bad)) room n left → Puts (answerTo s) room n left
+unfolding answerTo
+answer-complaint s bad p = rw (ne-eqb (s .bad) 0 bad) p
 
-pub prints-report : (input room left : List ℕ) (s : Lines) (d : Desk) (n : ℕ) → s ≡ readFrom freshLines input → s .bad ≡ 0 → d ≡ ended (take (s .count) (s .uids))
-    → 1200 ≤ length room → Puts (report d) room n left → Prints input room (pos n) left
-unfolding printed
-prints-report input room left s d n k fine is h p =
-    let desk : d ≡ ended (uids input) = is ∙ ap ended (reads input s k .listed fine) in
-    let all : printed input ≡ report d = rw (← (reads input s k .bad), eq-eqb (s .bad) 0 fine, ← desk) in
-    prints-all input room left n h (rw all p)
+pub answer-report : (s : Lines) {n : ℕ} {room left : List ℕ} (d : Desk) → s .bad ≡ 0 → d ≡ ended (take (s .count) (s .uids)) → Puts (report d) room n left
+    → Puts (answerTo s) room n left
+unfolding answerTo
+answer-report s d fine is p = rw (eq-eqb (s .bad) 0 fine, ← is) p

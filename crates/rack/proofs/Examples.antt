@@ -15,7 +15,7 @@ use Rattle.row.specs.Play.{noUids, mostSlots, ended}
 use Rattle.row.proofs.SlotsAlike.{benchOf}
 use Rattle.row.proofs.Meaning.{tagsOf, tags-obey, tags-answer, freshField, bench-is-a-field}
 use Rattle.rack.specs.Input.{linesFrom, lines, digitOf, allDigits, isUid, numberFrom, uidOf, badFrom, badLine, uidsOf, uids}
-use Rattle.rack.specs.Output.{word, digit, decimal, hexDigits, uidLines, report}
+use Rattle.rack.specs.Output.{word, digit, decimal, hexDigits, uidLines, verdictLine, heading, report}
 use Rattle.rack.specs.Bench.{printed}
 
 -- "E004010000000011, E004010000000021, E004010000000005", a line each, the last without 0A
@@ -50,7 +50,7 @@ three-fit (suc (suc (suc i))) = omega arith
 
 report-three : (list : List ℕ) → take 3 list ≡ 0xe004010000000005 ∷ 0xe004010000000011 ∷ 0xe004010000000021 ∷ []
     → report (record { walk = threeEnd 256; list = list }) ≡ threePrinted
-unfolding report word decimal digit hexDigits uidLines
+unfolding report heading verdictLine word decimal digit hexDigits uidLines
 report-three list e = rw e refl
 
 report-played : (p : Play) → p .walk ≡ threeEnd 256 → listed p ≡ 0xe004010000000005 ∷ 0xe004010000000011 ∷ 0xe004010000000021 ∷ []

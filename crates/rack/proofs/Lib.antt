@@ -1,7 +1,12 @@
 mod LineWays
+mod WrongLines
+mod Begun
+mod LeftToRead
 pub mod Reading
 pub mod InputMeaning
-mod Printing
+mod Putting
+mod Digits
+mod Printed
 mod BenchWays
 pub mod Start
 pub mod Examples

@@ -12,7 +12,7 @@ use lib.ListN.{length, take, length-append}
 use lib.Seq.{take-all}
 use Rattle.rack.specs.Input.{linesFrom, lines, isUid, badFrom, badLine}
 use Rattle.rack.specs.Bench.{printed}
-use Rattle.rack.proofs.Reading.{isGood, bad-line-dead, dead-101, dead-17}
+use Rattle.rack.proofs.WrongLines.{isGood, bad-line-dead, dead-101, dead-17}
 
 -- the first k bytes already tell which line is wrong, and one is
 record Settled (n : ℕ) (line bs : List ℕ) (k : ℕ) : Type 0 where

@@ -1,12 +1,14 @@
 -- 01, Bench: what is printed, byte for byte.
-use Prim.Native.Nat.{ℕ, zero, suc, _+_, _/_, _%_}
+use Prim.Native.Nat.{ℕ, zero, suc, _+_, _/_, _%_, _≤_}
+use mathlib.Core.Path.{_≡_}
 use mathlib.Core.Bool.{cond}
 use mathlib.Core.List.{List, [], _∷_, _++_}
 use lib.Dec.{ltb, eqb}
-use lib.ListN.{take}
+use lib.ListN.{length, take}
 use Rattle.walk.specs.declared.Walk.{Walk}
 use Rattle.walk.specs.Record.{complete, twins, full}
 use Rattle.row.specs.declared.Desk.{Desk}
+use Rattle.rack.specs.declared.output.Piece.{Piece}
 
 -- "The words are complete, twins, full, overrun": ending 1, 2, 3, all else
 unfoldable pub word : ℕ → List ℕ
@@ -26,6 +28,11 @@ decimal n =
     cond (ltb n 10) (digit n ∷ [])
     (cond (ltb n 100) (digit (n / 10) ∷ digit (n % 10) ∷ []) (digit (n / 100) ∷ digit (n / 10 % 10) ∷ digit (n % 10) ∷ []))
 
+-- what the functions that spell a word or a number promise: the first bytes of a piece
+pub record Spells (s : List ℕ) (r : Piece) : Type 0 where
+  pub few : r .count ≤ length (r .bytes)
+  pub first : take (r .count) (r .bytes) ≡ s
+
 -- the low n digits of a number, the highest first
 unfoldable pub hexDigits : ℕ → ℕ → List ℕ
 hexDigits zero u = []
@@ -36,13 +43,19 @@ unfoldable pub uidLines : List ℕ → List ℕ
 uidLines [] = []
 uidLines (u ∷ us) = hexDigits 16 u ++ 0x0a ∷ uidLines us
 
--- "verdict", "rounds", "cards", the list
+-- "verdict", "rounds", "cards"
+unfoldable pub verdictLine : ℕ → List ℕ
+verdictLine ending = 0x76 ∷ 0x65 ∷ 0x72 ∷ 0x64 ∷ 0x69 ∷ 0x63 ∷ 0x74 ∷ 0x20 ∷ word ending
+
+unfoldable pub heading : Walk → List ℕ
+heading w =
+    verdictLine (w .ending)
+    ++ 0x0a ∷ 0x72 ∷ 0x6f ∷ 0x75 ∷ 0x6e ∷ 0x64 ∷ 0x73 ∷ 0x20 ∷ decimal (w .rounds)
+    ++ 0x0a ∷ 0x63 ∷ 0x61 ∷ 0x72 ∷ 0x64 ∷ 0x73 ∷ 0x20 ∷ decimal (w .count)
+
+-- and the list
 unfoldable pub report : Desk → List ℕ
-report d =
-    0x76 ∷ 0x65 ∷ 0x72 ∷ 0x64 ∷ 0x69 ∷ 0x63 ∷ 0x74 ∷ 0x20 ∷ word (d .walk .ending)
-    ++ 0x0a ∷ 0x72 ∷ 0x6f ∷ 0x75 ∷ 0x6e ∷ 0x64 ∷ 0x73 ∷ 0x20 ∷ decimal (d .walk .rounds)
-    ++ 0x0a ∷ 0x63 ∷ 0x61 ∷ 0x72 ∷ 0x64 ∷ 0x73 ∷ 0x20 ∷ decimal (d .walk .count)
-    ++ 0x0a ∷ uidLines (take (d .walk .count) (d .list))
+report d = heading (d .walk) ++ 0x0a ∷ uidLines (take (d .walk .count) (d .list))
 
 -- "prints only `bad line` and its number"
 unfoldable pub complaint : ℕ → List ℕ

@@ -1,13 +1,20 @@
 // What is printed, put together in a lent buffer.
 ghost use mathlib.Core.Path.{_≡_};
 ghost use mathlib.Core.Bool.{true};
-ghost use mathlib.Core.List.{[], _∷_, _++_};
+ghost use mathlib.Core.List.{_++_};
 ghost use Prim.Native.Nat.{_+_, _*_, _<_, _≤_};
 ghost use lib.ListN.{length, take};
 ghost use Rattle.lent.specs.Puts.{Puts, PutsAt};
 ghost use Rattle.walk.specs.Record.{isAccepted};
-ghost use Rattle.rack.specs.Output.{word, digit, decimal, hexDigits, uidLines, report, complaint};
+ghost use Rattle.rack.specs.Output.{word, digit, decimal, Spells, hexDigits, uidLines, verdictLine, heading, report, complaint};
 use row::Desk;
+use walk::Walk;
+
+// A few bytes that are printed: the first count of them.
+struct Piece {
+    bytes: [u8; 8],
+    count: usize,
+}
 
 // Puts bytes at a place of the buffer, and returns the place after them.
 fn put_bytes(bytes: &[u8], out: &mut [u8], at: usize) -> usize
@@ -22,23 +29,6 @@ fn put_bytes(bytes: &[u8], out: &mut [u8], at: usize) -> usize
     at + i
 }
 
-// The word for an ending.
-fn put_word(ending: u8, out: &mut [u8], at: usize) -> usize
-    requires { ⌜ at + 8 ≤ length (now out) ⌝ }
-    ensures { λ r. ⌜ PutsAt at (word ending) (now (out .entry)) r (now (out .exit)) ⌝ }
-{
-    if ending == 1 {
-        return put_bytes(b"complete", out, at);
-    }
-    if ending == 2 {
-        return put_bytes(b"twins", out, at);
-    }
-    if ending == 3 {
-        return put_bytes(b"full", out, at);
-    }
-    put_bytes(b"overrun", out, at)
-}
-
 // The byte of a digit, upper-case.
 fn digit(d: u64) -> u8
     requires { ⌜ d < 16 ⌝ }
@@ -51,31 +41,67 @@ fn digit(d: u64) -> u8
     }
 }
 
-fn put_digit(d: u64, out: &mut [u8], at: usize) -> usize
-    requires { ⌜ d < 16 ⌝ }
-    requires { ⌜ at < length (now out) ⌝ }
-    ensures { λ r. ⌜ PutsAt at (digit d ∷ []) (now (out .entry)) r (now (out .exit)) ⌝ }
+// The word for an ending.
+fn word(ending: u8) -> Piece
+    ensures { λ r. ⌜ Spells (word ending) r ⌝ }
 {
-    out[at] = digit(d);
-    at + 1
+    if ending == 1 {
+        return Piece {
+            bytes: [b'c', b'o', b'm', b'p', b'l', b'e', b't', b'e'],
+            count: 8,
+        };
+    }
+    if ending == 2 {
+        return Piece {
+            bytes: [b't', b'w', b'i', b'n', b's', 0, 0, 0],
+            count: 5,
+        };
+    }
+    if ending == 3 {
+        return Piece {
+            bytes: [b'f', b'u', b'l', b'l', 0, 0, 0, 0],
+            count: 4,
+        };
+    }
+    Piece {
+        bytes: [b'o', b'v', b'e', b'r', b'r', b'u', b'n', 0],
+        count: 7,
+    }
 }
 
 // A number in decimal.
-fn put_decimal(n: u64, out: &mut [u8], at: usize) -> usize
+fn decimal(n: u64) -> Piece
     requires { ⌜ n < 1000 ⌝ }
-    requires { ⌜ at + 3 ≤ length (now out) ⌝ }
-    ensures { λ r. ⌜ PutsAt at (decimal n) (now (out .entry)) r (now (out .exit)) ⌝ }
+    ensures { λ r. ⌜ Spells (decimal n) r ⌝ }
 {
+    let units = digit(n % 10);
+    let tens = digit(n / 10 % 10);
+    let hundreds = digit(n / 100);
     if n < 10 {
-        return put_digit(n, out, at);
+        return Piece {
+            bytes: [units, 0, 0, 0, 0, 0, 0, 0],
+            count: 1,
+        };
     }
     if n < 100 {
-        let tens = put_digit(n / 10, out, at);
-        return put_digit(n % 10, out, tens);
+        return Piece {
+            bytes: [tens, units, 0, 0, 0, 0, 0, 0],
+            count: 2,
+        };
     }
-    let hundreds = put_digit(n / 100, out, at);
-    let tens = put_digit(n / 10 % 10, out, hundreds);
-    put_digit(n % 10, out, tens)
+    Piece {
+        bytes: [hundreds, tens, units, 0, 0, 0, 0, 0],
+        count: 3,
+    }
+}
+
+fn put_piece(piece: Piece, out: &mut [u8], at: usize) -> usize
+    requires { ⌜ piece .count ≤ length (piece .bytes) ⌝ }
+    requires { ⌜ at + piece .count ≤ length (now out) ⌝ }
+    ensures { λ r. ⌜ PutsAt at (take (piece .count) (piece .bytes)) (now (out .entry)) r (now (out .exit)) ⌝ }
+{
+    let bytes = piece.bytes;
+    put_bytes(&bytes[..piece.count], out, at)
 }
 
 // A UID, 16 hex digits.
@@ -115,17 +141,29 @@ fn put_named(name: &[u8], n: u64, out: &mut [u8], at: usize) -> usize
     ensures { λ r. ⌜ r ≤ at + length (now (name .entry)) + 3 ⌝ }
 {
     let next = put_bytes(name, out, at);
-    put_decimal(n, out, next)
+    put_piece(decimal(n), out, next)
 }
 
 // The verdict.
 fn put_verdict(ending: u8, out: &mut [u8]) -> usize
     requires { ⌜ 16 ≤ length (now out) ⌝ }
-    ensures { λ r. ⌜ PutsAt 0 (0x76 ∷ 0x65 ∷ 0x72 ∷ 0x64 ∷ 0x69 ∷ 0x63 ∷ 0x74 ∷ 0x20 ∷ word ending) (now (out .entry)) r (now (out .exit)) ⌝ }
+    ensures { λ r. ⌜ PutsAt 0 (verdictLine ending) (now (out .entry)) r (now (out .exit)) ⌝ }
     ensures { λ r. ⌜ r ≤ 16 ⌝ }
 {
     let next = put_bytes(b"verdict ", out, 0);
-    put_word(ending, out, next)
+    put_piece(word(ending), out, next)
+}
+
+// What is printed before the list.
+fn put_heading(walk: Walk, out: &mut [u8]) -> usize
+    requires { ⌜ isAccepted walk ≡ true ⌝ }
+    requires { ⌜ 1200 ≤ length (now out) ⌝ }
+    ensures { λ r. ⌜ PutsAt 0 (heading walk) (now (out .entry)) r (now (out .exit)) ⌝ }
+    ensures { λ r. ⌜ r ≤ 37 ⌝ }
+{
+    let mut at = put_verdict(walk.ending, out);
+    at = put_named(b"\nrounds ", walk.rounds as u64, out, at);
+    put_named(b"\ncards ", walk.count as u64, out, at)
 }
 
 // What is printed of a walk that has ended.
@@ -137,12 +175,9 @@ pub(crate) fn put_report(desk: Desk, out: &mut [u8]) -> usize
 {
     let walk = desk.walk;
     let list = desk.list;
-    let count = walk.count;
-    let mut at = put_verdict(walk.ending, out);
-    at = put_named(b"\nrounds ", walk.rounds as u64, out, at);
-    at = put_named(b"\ncards ", count as u64, out, at);
+    let mut at = put_heading(walk, out);
     at = put_bytes(b"\n", out, at);
-    put_list(list, count as usize, out, at)
+    put_list(list, walk.count as usize, out, at)
 }
 
 // What is printed of a wrong line.

@@ -20,24 +20,20 @@ at-most-below most n m is = subst (λ (k : ℕ). k ≤ most) (sym is) (go (leb n
     go true e = leb-true n most e
     go false e = le-refl most
 
-pub take-most : {X : Type 0} (most n : ℕ) (xs : List X) → length xs ≡ most → take (atMost most n) xs ≡ take n xs
+-- what is the same for the most and all above it is the same for the number
+same-most : {X : Type 0} (most n : ℕ) (f : ℕ → X) → (most < n → f most ≡ f n) → f (atMost most n) ≡ f n
 unfolding atMost
-take-most most n xs l = go (leb n most) refl
+same-most most n f over = go (leb n most) refl
   where
-    go : (b : Bool) → leb n most ≡ b → take (cond b n most) xs ≡ take n xs
+    go : (b : Bool) → leb n most ≡ b → f (cond b n most) ≡ f n
     go true e = refl
-    go false e =
-        let over : most < n = leb-false n most e in
-        take-all most xs (omega (arith, l)) ∙ sym (take-all n xs (omega (arith, l, over)))
+    go false e = over (leb-false n most e)
+
+pub take-most : {X : Type 0} (most n : ℕ) (xs : List X) → length xs ≡ most → take (atMost most n) xs ≡ take n xs
+take-most most n xs l =
+    same-most most n (λ k. take k xs) (λ over. take-all most xs (omega (arith, l)) ∙ sym (take-all n xs (omega (arith, l, over))))
 
 pub drop-most : {X : Type 0} (most n : ℕ) (xs : List X) → length xs ≡ most → drop (atMost most n) xs ≡ drop n xs
-unfolding atMost
-drop-most most n xs l = go (leb n most) refl
-  where
-    go : (b : Bool) → leb n most ≡ b → drop (cond b n most) xs ≡ drop n xs
-    go true e = refl
-    go false e =
-        let over : most < n = leb-false n most e in
-        let all : length xs ≤ most = omega (arith, l) in
-        let more : length xs ≤ n = omega (arith, l, over) in
-        drop-of-length-le xs all ∙ sym (drop-of-length-le xs more)
+drop-most most n xs l =
+    same-most most n (λ k. drop k xs)
+    (λ over. drop-of-length-le xs {i = most} (omega (arith, l)) ∙ sym (drop-of-length-le xs {i = n} (omega (arith, l, over))))

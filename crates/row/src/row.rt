@@ -110,12 +110,8 @@ fn air_with(air: Air, card: Card, reply: Reply) -> Air
 {
     match reply {
         Reply::Silence => air,
-        Reply::Error(_) => clash(air),
-        Reply::Done => clash(air),
         Reply::Present => present(air, card),
-        Reply::Blocks(_, _, _) => clash(air),
-        Reply::Status(_, _) => clash(air),
-        Reply::Information => clash(air),
+        _ => clash(air),
     }
 }
 

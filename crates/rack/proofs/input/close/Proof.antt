@@ -4,9 +4,6 @@ use native.Mathlib.Omega.{arith}
 use Rattle.rack.proofs.LineWays.{closed-wrong, closed-between, closed-line}
 use Rattle.rack.proofs.input.close.Statement.{statement}
 use Rattle.rack.proofs.input.close.Tie as tie
-use Rattle.rack.proofs.input.close.Reads as reads
-use Rattle.rack.proofs.input.close.Lts as lts
-use Rattle.rack.proofs.input.line_ended.Reads as line-ended-reads
 
 returns : tie.Need-returns
 returns c = closed-wrong _ (c .if1 .taken)

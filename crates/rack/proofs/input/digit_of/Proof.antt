@@ -4,8 +4,6 @@ use native.Mathlib.Omega.{arith}
 use Rattle.rack.proofs.LineWays.{digit-low, digit-0-9, digit-between, digit-A-F, digit-high}
 use Rattle.rack.proofs.input.digit_of.Statement.{statement}
 use Rattle.rack.proofs.input.digit_of.Tie as tie
-use Rattle.rack.proofs.input.digit_of.Reads as reads
-use Rattle.rack.proofs.input.digit_of.Lts as lts
 
 returns : tie.Need-returns
 returns c = digit-low _ (omega arith)

@@ -3,8 +3,6 @@ use mathlib.Core.Path.{refl}
 use Rattle.rack.specs.Lines.{noLines, freshLines}
 use Rattle.rack.proofs.input.fresh.Statement.{statement}
 use Rattle.rack.proofs.input.fresh.Tie as tie
-use Rattle.rack.proofs.input.fresh.Reads as reads
-use Rattle.rack.proofs.input.fresh.Lts as lts
 
 returns : tie.Need-returns
 unfolding noLines freshLines

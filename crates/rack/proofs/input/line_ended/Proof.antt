@@ -4,10 +4,6 @@ use native.Mathlib.Omega.{arith}
 use Rattle.rack.proofs.LineWays.{ended-line-101, ended-uid, ended-short}
 use Rattle.rack.proofs.input.line_ended.Statement.{statement}
 use Rattle.rack.proofs.input.line_ended.Tie as tie
-use Rattle.rack.proofs.input.line_ended.Reads as reads
-use Rattle.rack.proofs.input.line_ended.Lts as lts
-use Rattle.rack.proofs.input.listed.Reads as listed-reads
-use Rattle.rack.proofs.input.wrong.Reads as wrong-reads
 
 wrong-requires : tie.Need-wrong-requires
 wrong-requires c κs = search needs

@@ -4,8 +4,6 @@ use mathlib.Core.Path.{refl}
 use Rattle.rack.specs.Lines.{listed}
 use Rattle.rack.proofs.input.listed.Statement.{statement}
 use Rattle.rack.proofs.input.listed.Tie as tie
-use Rattle.rack.proofs.input.listed.Reads as reads
-use Rattle.rack.proofs.input.listed.Lts as lts
 
 mul-uids : tie.Need-mul-uids
 mul-uids c = search needs

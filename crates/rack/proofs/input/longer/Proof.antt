@@ -4,11 +4,6 @@ use native.Mathlib.Omega.{arith}
 use Rattle.rack.proofs.LineWays.{longer-line-101, longer-17th, longer-no-digit, longer-digit}
 use Rattle.rack.proofs.input.longer.Statement.{statement}
 use Rattle.rack.proofs.input.longer.Tie as tie
-use Rattle.rack.proofs.input.longer.Reads as reads
-use Rattle.rack.proofs.input.longer.Lts as lts
-use Rattle.rack.proofs.input.digit_of.Reads as digit-of-reads
-use Rattle.rack.proofs.input.pushed.Reads as pushed-reads
-use Rattle.rack.proofs.input.wrong.Reads as wrong-reads
 
 digit-of-requires : tie.Need-digit-of-requires
 digit-of-requires c κs = search needs

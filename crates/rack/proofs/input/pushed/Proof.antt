@@ -4,8 +4,6 @@ use mathlib.Core.Path.{refl}
 use Rattle.rack.specs.Lines.{pushed}
 use Rattle.rack.proofs.input.pushed.Statement.{statement}
 use Rattle.rack.proofs.input.pushed.Tie as tie
-use Rattle.rack.proofs.input.pushed.Reads as reads
-use Rattle.rack.proofs.input.pushed.Lts as lts
 
 add-t4 : tie.Need-add-t4
 add-t4 c = search needs

@@ -1,4 +1,4 @@
--- `rack::input::read` meets its contract. The loop's invariant: what is left, read from here, is the whole (Reading.antt).
+-- `rack::input::read` meets its contract. The loop's invariant: what is left, read from here, is the whole (LeftToRead.antt).
 -- The measure is what is left of the input. Assumes nothing.
 use mathlib.Core.Logic.{⊎-elim}
 use mathlib.Core.Path.{_≡_, refl, _∙_}
@@ -6,7 +6,7 @@ use Prim.Native.Nat.{_-_, _≤_}
 use native.Mathlib.Omega.{arith}
 use lib.ListN.{length, drop}
 use Rattle.rack.specs.Lines.{freshLines, readFrom}
-use Rattle.rack.proofs.Reading.{step-left, end-left, stopped-left, count-fresh, count-stepped}
+use Rattle.rack.proofs.LeftToRead.{step-left, end-left, stopped-left, count-fresh, count-stepped}
 use Rattle.rack.proofs.input.read.Statement.{statement}
 use Rattle.rack.proofs.input.read.Tie as tie
 

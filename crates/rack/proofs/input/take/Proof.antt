@@ -4,10 +4,6 @@ use native.Mathlib.Omega.{arith}
 use Rattle.rack.proofs.LineWays.{stepped-end, stepped-longer}
 use Rattle.rack.proofs.input.take.Statement.{statement}
 use Rattle.rack.proofs.input.take.Tie as tie
-use Rattle.rack.proofs.input.take.Reads as reads
-use Rattle.rack.proofs.input.take.Lts as lts
-use Rattle.rack.proofs.input.line_ended.Reads as line-ended-reads
-use Rattle.rack.proofs.input.longer.Reads as longer-reads
 
 line-ended-requires : tie.Need-line-ended-requires
 line-ended-requires c κs = search needs

@@ -4,8 +4,6 @@ use mathlib.Core.Path.{refl}
 use Rattle.rack.specs.Lines.{wrong}
 use Rattle.rack.proofs.input.wrong.Statement.{statement}
 use Rattle.rack.proofs.input.wrong.Tie as tie
-use Rattle.rack.proofs.input.wrong.Reads as reads
-use Rattle.rack.proofs.input.wrong.Lts as lts
 
 add-t3 : tie.Need-add-t3
 add-t3 c = search needs

@@ -1,6 +1,6 @@
 -- `rack::output::digit` meets its contract, by its one test. Assumes nothing.
 use native.Mathlib.Omega.{arith}
-use Rattle.rack.proofs.Printing.{digit-decimal, digit-letter}
+use Rattle.rack.proofs.Digits.{digit-decimal, digit-letter}
 use borrow.Author.Needs.{needs}
 use Rattle.rack.proofs.output.digit.Statement.{statement}
 use Rattle.rack.proofs.output.digit.Tie as tie

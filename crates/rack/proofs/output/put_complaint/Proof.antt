@@ -2,13 +2,9 @@
 use borrow.Author.Needs.{needs}
 use native.Mathlib.Omega.{arith}
 use Rattle.rack.specs.Output.{complaint}
-use Rattle.rack.proofs.Printing.{puts-then, puts-start}
+use Rattle.rack.proofs.Putting.{puts-then, puts-start}
 use Rattle.rack.proofs.output.put_complaint.Statement.{statement}
 use Rattle.rack.proofs.output.put_complaint.Tie as tie
-use Rattle.rack.proofs.output.put_complaint.Reads as reads
-use Rattle.rack.proofs.output.put_complaint.Lts as lts
-use Rattle.rack.proofs.output.put_bytes.Reads as put-bytes-reads
-use Rattle.rack.proofs.output.put_named.Reads as put-named-reads
 
 slice-aggregate-put-named : tie.Need-slice-aggregate-put-named
 slice-aggregate-put-named c = search needs
@@ -27,7 +23,10 @@ same-length c = search needs
 
 returns : tie.Need-returns
 unfolding complaint
-returns c = (puts-start (puts-then (c .before .before .before .before .before .before .before .put-named .ensures .0) (c .before .before .put-bytes .ensures) (omega arith)), omega (arith, c .before .before .before .before .before .before .before .put-named .ensures .1, c .before .before .put-bytes .ensures .next))
+returns c =
+    let named = c .before .before .before .before .before .before .before .put-named .ensures in
+    let line-end = c .before .before .put-bytes .ensures in
+    (puts-start (puts-then (named .0) line-end (omega arith)), omega (arith, named .1, line-end .next))
 
 pub put-complaint-spec : {M : Type 1} → statement M
 put-complaint-spec =

@@ -1,26 +1,34 @@
--- `rack::output::put_named` meets its contract: a name, a number and the line's end, placed one after the other. Assumes nothing.
+-- `rack::output::put_named` meets its contract: a name and a number, placed one after the other. Assumes nothing.
 use borrow.Author.Needs.{needs}
 use native.Mathlib.Omega.{arith}
-use Rattle.rack.proofs.Printing.{puts-then, length-decimal, named-end}
-use Rattle.rack.proofs.Printing.{puts-then, length-decimal}
+use Rattle.rack.proofs.Printed.{spelled-length, puts-spelled, named-end}
+use Rattle.rack.proofs.Digits.{length-decimal}
+use Rattle.rack.proofs.Putting.{puts-then}
 use Rattle.rack.proofs.output.put_named.Statement.{statement}
 use Rattle.rack.proofs.output.put_named.Tie as tie
-use Rattle.rack.proofs.output.put_named.Reads as reads
-use Rattle.rack.proofs.output.put_named.Lts as lts
-use Rattle.rack.proofs.output.put_bytes.Reads as put-bytes-reads
-use Rattle.rack.proofs.output.put_decimal.Reads as put-decimal-reads
 
 put-bytes-requires : tie.Need-put-bytes-requires
 put-bytes-requires c κs = search needs
 
-put-decimal-requires : tie.Need-put-decimal-requires
-put-decimal-requires c κs = search needs
+decimal-requires : tie.Need-decimal-requires
+decimal-requires c κs = search needs
+
+put-piece-requires : tie.Need-put-piece-requires
+put-piece-requires c κs =
+    let spelled = c .before .decimal .ensures in
+    (spelled .few, omega (arith, c .before .before .before .before .put-bytes .ensures .next, spelled-length _ spelled, length-decimal (c .before .before .before .before .before .before .before .before .args .n)))
 
 same-length : tie.Need-same-length
 same-length c = search needs
 
 returns : tie.Need-returns
-returns c = let puts = puts-then (c .before .before .before .before .before .before .put-bytes .ensures) (c .before .before .put-decimal .ensures) (omega (arith, c .before .before .before .before .before .before .put-bytes .ensures .next, length-decimal (c .before .before .before .before .before .before .before .before .before .before .args .n))) in (puts, named-end (c .before .before .before .before .before .before .before .before .before .before .args .name .now) (c .before .before .before .before .before .before .before .before .before .before .args .n) puts)
+returns c =
+    let args = c .before .before .before .before .before .before .before .before .before .before .before .args in
+    let name = c .before .before .before .before .before .before .before .put-bytes .ensures in
+    let number = puts-spelled _ (c .before .before .before .before .decimal .ensures) (c .before .before .put-piece .ensures) in
+    let puts = puts-then name number (omega (arith, name .next, length-decimal (args .n))) in
+    (puts, named-end (args .name .now) (args .n) puts)
 
 pub put-named-spec : {M : Type 1} → statement M
-put-named-spec = tie.close (tie.spec put-bytes-requires put-decimal-requires same-length returns)
+put-named-spec =
+    tie.close (tie.spec put-bytes-requires decimal-requires put-piece-requires same-length returns)

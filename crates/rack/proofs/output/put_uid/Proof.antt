@@ -3,9 +3,9 @@
 use native.Mathlib.Omega.{arith}
 use mathlib.Core.Path.{_≡_, refl}
 use Prim.Native.Nat.{_+_, _-_, _≤_}
-use lib.ListN.{length, take, length-set}
+use lib.ListN.{length, length-set}
 use Rattle.lent.specs.Puts.{PutsAt}
-use Rattle.rack.proofs.Printing.{topDigits, top-puts-none, top-puts-more, top-all}
+use Rattle.rack.proofs.Digits.{topDigits, top-puts-none, top-puts-more, top-all}
 use Rattle.rack.proofs.output.put_uid.Statement.{statement}
 use Rattle.rack.proofs.output.put_uid.Tie as tie
 

@@ -13,7 +13,13 @@ air-with-requires : tie.Need-air-with-requires
 air-with-requires c κs = search needs
 
 returns : tie.Need-returns
-returns c = record { card = ap (λ (t : Turn). t .card) (c .before .before .turn .ensures); air-left = c .air-with .ensures ∙ ap (λ (t : Turn). airWith (c .before .before .before .args .air) (t .card) (t .reply)) (c .before .before .turn .ensures) }
+returns c =
+    let turned = c .before .before .turn .ensures in
+    let air = c .before .before .before .args .air in
+    record {
+      card = ap (λ (t : Turn). t .card) turned;
+      air-left = c .air-with .ensures ∙ ap (λ (t : Turn). airWith air (t .card) (t .reply)) turned;
+    }
 
 pub listen-spec : {M : Type 1} → statement M
 listen-spec = tie.close (tie.spec turn-requires air-with-requires returns)

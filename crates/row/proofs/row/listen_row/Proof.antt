@@ -23,7 +23,7 @@ use prog.Wp.{Heap, WpFn, Tables}
 use ghost.Atoms.{Atoms}
 use contract.Monad.{Fun, fact}
 use contract.Running.{givenOf, tables, tablesOf}
-use types.Kit.{Given, ‵, raw, some, later, _⊛_, runs, anyQ, Sq, _$_, _∵_, !, qed, move, keep, drop, use0, use1, split, pick, rewrite, fsplit, await}
+use types.Kit.{Given, ‵, raw, some, later, _⊛_, _$_, _∵_, !, qed, move, keep, drop, use0, use1, split, pick, rewrite, fsplit, await}
 use types.Run.{look, init, forget, stop, from, load, lit, of-opd, and-then, no-more, assigns, first, blocks, land, enter, alloc1, alloc0, params1, pass1, pass0, loops}
 use types.Part.{agg}
 use sound.WpLaws.{WpFn-mono, fmOf}
@@ -67,16 +67,14 @@ use Rattle.row.proofs.row.listen_row.Statement as stated
 use Rattle.row.proofs.row.listen_row.Code as code
 use Rattle.row.proofs.Values.{walkVals, sentVals}
 use Rattle.row.proofs.row.listen_row.Proof.Calls.{Sending, Listen, sent-of, to-sending, has-sending}
-use Rattle.row.proofs.row.listen_row.Proof.State.{stayed, ty, Turn, nearer, nearer-wf, still-fits, a, vals, Post, En, At, Turned}
+use Rattle.row.proofs.row.listen_row.Proof.State.{stayed, ty, Turn, nearer, nearer-wf, still-fits, a, vals, Post, At, Turns}
 use Rattle.row.proofs.row.listen_row.Proof.Ends.{ends}
 use Rattle.row.proofs.row.listen_row.Proof.More.{more}
-use Rattle.row.proofs.row.listen_row.Code.Mir as body
 
 module _ {M : Type 1} (𝓤 : URA M) (H : Heap 𝓤) (A : Atoms 𝓤) (W : Given 𝓤 H A) (at-mem : Memory → SProp 𝓤) (run : Routine → Fun 𝓤) (κ : Lft) (q : Share) (b o : ℕ) (γ : GName) (ys : List Card) (w : Walk)
     (room : Room C°.the-row (length ys)) (w-fits : Is W°.the-row w (walkVals w)) (𝓣 : Tables 𝓤 H) (known-sending : Triple 𝓤 (𝓣 .C #sending) (Sending 𝓤 H A at-mem run)) (known-listen : Triple 𝓤 (𝓣 .C #listen) (Listen 𝓤 H A at-mem run)) where
   turn-by : (s : Sent) → s ≡ sentOf w → Is S°.the-row s (sentVals s) → (l₀ l₁ l₂ l₃ l₄ l₅ l₆ l₇ l₈ l₉ l₁₀ l₁₁ : ℕ) (t : Turn w ys) (z : Bool) → ltb (t .i) (length ys) ≡ z
-      → Sq W (At 𝓤 H A W at-mem run κ q b o γ ys w room w-fits s 𝓣 l₀ l₁ l₂ l₃ l₄ l₅ l₆ l₇ l₈ l₉ l₁₀ l₁₁ t)
-      (runs (𝓣 .C) (𝓣 .Λ) (En 𝓤 H A W at-mem run κ q b o γ ys w room w-fits s 𝓣 l₀ l₁ l₂ l₃ l₄ l₅ l₆ l₇ l₈ l₉ l₁₀ l₁₁) body.turn-1 (anyQ (Turned 𝓤 H A W at-mem run κ q b o γ ys w room w-fits s 𝓣 l₀ l₁ l₂ l₃ l₄ l₅ l₆ l₇ l₈ l₉ l₁₀ l₁₁ t)))
+      → Turns 𝓤 H A W at-mem run κ q b o γ ys w room w-fits s 𝓣 l₀ l₁ l₂ l₃ l₄ l₅ l₆ l₇ l₈ l₉ l₁₀ l₁₁ t
   turn-by s e fits l₀ l₁ l₂ l₃ l₄ l₅ l₆ l₇ l₈ l₉ l₁₀ l₁₁ t true g = more 𝓤 H A W at-mem run κ q b o γ ys w room w-fits s e fits 𝓣 known-listen l₀ l₁ l₂ l₃ l₄ l₅ l₆ l₇ l₈ l₉ l₁₀ l₁₁ t (ltb-true (t .i) (length ys) g)
   turn-by s e fits l₀ l₁ l₂ l₃ l₄ l₅ l₆ l₇ l₈ l₉ l₁₀ l₁₁ t false g = ends 𝓤 H A W at-mem run κ q b o γ ys w room w-fits s 𝓣 l₀ l₁ l₂ l₃ l₄ l₅ l₆ l₇ l₈ l₉ l₁₀ l₁₁ t (ltb-false (t .i) (length ys) g)
 

@@ -13,10 +13,10 @@ use base.Logic.{SProp}
 use base.Fml.{GName, Lft, Share, fat}
 use prog.Memory.{Memory}
 use prog.Routine.{Routine}
-use prog.Wp.{Heap, Out, Env, afterTurn, Tables}
+use prog.Wp.{Heap, afterTurn, Tables}
 use ghost.Atoms.{Atoms}
 use contract.Monad.{Fun}
-use types.Kit.{Given, Item, ‵, runs, anyQ, atRet, Sq, _$_, !, by, move, rewrite}
+use types.Kit.{Given, ‵, atRet, _$_, !, by, move, rewrite}
 use types.Run.{look, init, forget, stop, fld, from, load, of-opd, bin, assigns, leaves-loop, returns, free1, free0, exec}
 use types.Part.{whole, sub, look-in}
 use denote.Laws.{Is}
@@ -38,23 +38,14 @@ use Rattle.row.proofs.row.listen_row.Proof.State.{Turn}
 
 module _ {M : Type 1} (𝓤 : URA M) (H : Heap 𝓤) (A : Atoms 𝓤) (W : Given 𝓤 H A) (at-mem : Memory → SProp 𝓤) (run : Routine → Fun 𝓤) (κ : Lft) (q : Share) (b o : ℕ) (γ : GName) (ys : List Card) (w : Walk)
     (room : Room C°.the-row (length ys)) (w-fits : Is W°.the-row w (walkVals w)) (s : Sent) (𝓣 : Tables 𝓤 H) (l₀ l₁ l₂ l₃ l₄ l₅ l₆ l₇ l₈ l₉ l₁₀ l₁₁ : ℕ) where
-  abbrev En : Env 𝓤 H
-  En = state.En 𝓤 H A W at-mem run κ q b o γ ys w room w-fits s 𝓣 l₀ l₁ l₂ l₃ l₄ l₅ l₆ l₇ l₈ l₉ l₁₀ l₁₁
-
-  abbrev At : Turn w ys → List (Item 𝓤)
-  At = state.At 𝓤 H A W at-mem run κ q b o γ ys w room w-fits s 𝓣 l₀ l₁ l₂ l₃ l₄ l₅ l₆ l₇ l₈ l₉ l₁₀ l₁₁
-
-  abbrev Turned : Turn w ys → Out → SProp 𝓤
-  Turned = state.Turned 𝓤 H A W at-mem run κ q b o γ ys w room w-fits s 𝓣 l₀ l₁ l₂ l₃ l₄ l₅ l₆ l₇ l₈ l₉ l₁₀ l₁₁
-
   pub ends : (t : Turn w ys) → length ys ≤ t .i
-      → Sq W (At t) (runs (𝓣 .C) (𝓣 .Λ) En body.turn-1 (anyQ (Turned t)))
+      → state.Turns 𝓤 H A W at-mem run κ q b o γ ys w room w-fits s 𝓣 l₀ l₁ l₂ l₃ l₄ l₅ l₆ l₇ l₈ l₉ l₁₀ l₁₁ t
   unfolding afterTurn
   ends t over =
       assigns ! (of-opd ! (load ! (from ! (fld ! refl (stop !))) (look-in ! 9 (sub ! 1 refl (whole !))))) (from ! (stop !)) (init ! 4 refl (tt, record { fits = room .0 })) $
       assigns ! (bin ! (load ! (from ! (stop !)) (look ! 1 refl)) (load ! (from ! (stop !)) (look ! 4 refl)) tt) (from ! (stop !)) (init ! 5 refl (tt, tt)) $
       rewrite ! 5 (λ (z : Bool). ‵ (fat fullShare tyBool l₈ 0 (vbool z))) (le-ltb (t .i) (length ys) over) refl $
-      leaves-loop ! (load ! (from ! (stop !)) (look ! 5 refl)) $ exec ! (𝓣 .C) (𝓣 .Λ) En body.t-5 (atRet En (state.Post 𝓤 H A W at-mem run κ q b o γ ys w room w-fits)) $
+      leaves-loop ! (load ! (from ! (stop !)) (look ! 5 refl)) $ exec ! (𝓣 .C) (𝓣 .Λ) (state.En 𝓤 H A W at-mem run κ q b o γ ys w room w-fits s 𝓣 l₀ l₁ l₂ l₃ l₄ l₅ l₆ l₇ l₈ l₉ l₁₀ l₁₁) body.t-5 (atRet (state.En 𝓤 H A W at-mem run κ q b o γ ys w room w-fits s 𝓣 l₀ l₁ l₂ l₃ l₄ l₅ l₆ l₇ l₈ l₉ l₁₀ l₁₁) (state.Post 𝓤 H A W at-mem run κ q b o γ ys w room w-fits)) $
       assigns ! (of-opd ! (load ! (from ! (stop !)) (look ! 2 refl))) (from ! (stop !)) (init ! 11 refl (LL.lawful A°.the-type A′.the-laws 𝓤 H A W .typed (t .air) _ (t .fits) .0)) $
       move ! (0 ∷ 12 ∷ 13 ∷ 14 ∷ []) $ closes-slice ! tt C°.the-row ys (t .cards) (t .part .long) b o $
       -- [obs; the borrow; the token; _5; _4; _6; _7; _8; _9; _10; _11; _1; _3; _0; _2; and that each dies]

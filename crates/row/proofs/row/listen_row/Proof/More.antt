@@ -15,10 +15,10 @@ use base.Logic.{SProp, id⊢}
 use base.Fml.{GName, Lft, Share, ftrue, fat}
 use prog.Memory.{Memory}
 use prog.Routine.{Routine}
-use prog.Wp.{Heap, Out, Env, afterTurn, Tables}
+use prog.Wp.{Heap, afterTurn, Tables}
 use ghost.Atoms.{Atoms}
 use contract.Monad.{Fun, fact}
-use types.Kit.{Given, Item, ‵, raw, some, later, _⊛_, runs, anyQ, Sq, _$_, !, move, drop, use0, use1, split, pick, rewrite, await}
+use types.Kit.{Given, ‵, raw, some, later, _⊛_, _$_, !, move, drop, use0, use1, split, pick, rewrite, await}
 use types.Run.{look, look-raw, store, store-raw, init, forget, stop, hop, fld, from, load, lit, of-opd, bin, and-then, no-more, assigns, assigns-last, stays, land, again}
 use types.Part.{whole, sub, look-in}
 use sound.WpLaws.{fmOf}
@@ -46,7 +46,6 @@ use Rattle.row.proofs.Listened.Laws as L′
 use Rattle.row.proofs.RowPart.{place-within, partly-more}
 use Rattle.row.proofs.row.listen as listen
 use Rattle.row.proofs.row.listen.Symbol.{name as #listen}
-use Rattle.row.proofs.row.listen_row.Code.Mir as body
 use Rattle.row.proofs.Values.{cardVals, walkVals, sentVals, airVals}
 use Rattle.row.proofs.row.listen_row.Proof.Calls.{Listen, heard-of, to-listen, has-listen}
 use Rattle.row.proofs.row.listen_row.Proof.State as state
@@ -54,17 +53,8 @@ use Rattle.row.proofs.row.listen_row.Proof.State.{ty, Turn, nearer}
 
 module _ {M : Type 1} (𝓤 : URA M) (H : Heap 𝓤) (A : Atoms 𝓤) (W : Given 𝓤 H A) (at-mem : Memory → SProp 𝓤) (run : Routine → Fun 𝓤) (κ : Lft) (q : Share) (b o : ℕ) (γ : GName) (ys : List Card) (w : Walk)
     (room : Room C°.the-row (length ys)) (w-fits : Is W°.the-row w (walkVals w)) (s : Sent) (is-sent : s ≡ sentOf w) (s-fits : Is S°.the-row s (sentVals s)) (𝓣 : Tables 𝓤 H) (known : Triple 𝓤 (𝓣 .C #listen) (Listen 𝓤 H A at-mem run)) (l₀ l₁ l₂ l₃ l₄ l₅ l₆ l₇ l₈ l₉ l₁₀ l₁₁ : ℕ) where
-  abbrev En : Env 𝓤 H
-  En = state.En 𝓤 H A W at-mem run κ q b o γ ys w room w-fits s 𝓣 l₀ l₁ l₂ l₃ l₄ l₅ l₆ l₇ l₈ l₉ l₁₀ l₁₁
-
-  abbrev At : Turn w ys → List (Item 𝓤)
-  At = state.At 𝓤 H A W at-mem run κ q b o γ ys w room w-fits s 𝓣 l₀ l₁ l₂ l₃ l₄ l₅ l₆ l₇ l₈ l₉ l₁₀ l₁₁
-
-  abbrev Turned : Turn w ys → Out → SProp 𝓤
-  Turned = state.Turned 𝓤 H A W at-mem run κ q b o γ ys w room w-fits s 𝓣 l₀ l₁ l₂ l₃ l₄ l₅ l₆ l₇ l₈ l₉ l₁₀ l₁₁
-
   pub more : (t : Turn w ys) → t .i < length ys
-      → Sq W (At t) (runs (𝓣 .C) (𝓣 .Λ) En body.turn-1 (anyQ (Turned t)))
+      → state.Turns 𝓤 H A W at-mem run κ q b o γ ys w room w-fits s 𝓣 l₀ l₁ l₂ l₃ l₄ l₅ l₆ l₇ l₈ l₉ l₁₀ l₁₁ t
   unfolding afterTurn
   more t less =
       assigns ! (of-opd ! (load ! (from ! (fld ! refl (stop !))) (look-in ! 9 (sub ! 1 refl (whole !))))) (from ! (stop !)) (init ! 4 refl (tt, record { fits = room .0 })) $
@@ -95,7 +85,7 @@ module _ {M : Type 1} (𝓤 : URA M) (H : Heap 𝓤) (A : Atoms 𝓤) (W : Given
       assigns ! (of-opd ! (load ! (from ! (fld ! refl (stop !))) (look-in ! 3 (sub ! 1 refl (whole !))))) (from ! (stop !)) (store ! 2 refl (LL.lawful A°.the-type A′.the-laws 𝓤 H A W .typed (r .air) _ (r-fits r v is .1 .0) .0)) $
       assigns-last ! (bin ! (load ! (from ! (stop !)) (look ! 1 refl)) (lit ! tt) (record { fits = next-fits })) (from ! (stop !)) (store ! 1 refl (tt, record { fits = next-fits })) $
       forget ! 3 refl $ forget ! 4 refl $ forget ! 5 refl $ forget ! 6 refl $ forget ! 7 refl $ forget ! 8 refl $
-      again ! (nearer w ys) At t (next r v is h) closer)))))
+      again ! (nearer w ys) (state.At 𝓤 H A W at-mem run κ q b o γ ys w room w-fits s 𝓣 l₀ l₁ l₂ l₃ l₄ l₅ l₆ l₇ l₈ l₉ l₁₀ l₁₁) t (next r v is h) closer)))))
     where
       c : Card
       c = getD (t .cards) (t .i) (cardOf 0)

@@ -17,7 +17,7 @@ use prog.Routine.{Routine}
 use prog.Wp.{Heap, Out, Env, afterSeq, afterBlock, afterTurn, Wp, atReturn, Tables}
 use ghost.Atoms.{Atoms}
 use contract.Monad.{Fun}
-use types.Kit.{Given, Item, ‵, ⋆, _$_, _∵_, !, qed, move, join, fjoin, suffices, frame, done}
+use types.Kit.{Given, Item, ‵, ⋆, runs, anyQ, Sq, _$_, _∵_, !, qed, move, join, fjoin, suffices, frame, done}
 use types.Run.{Below}
 use denote.Shadow.{pureI}
 use denote.Laws.{Is}
@@ -113,3 +113,7 @@ module _ {M : Type 1} (𝓤 : URA M) (H : Heap 𝓤) (A : Atoms 𝓤) (W : Given
 
     abbrev pub Turned : Turn w ys → Out → SProp 𝓤
     Turned t = afterTurn 𝓤 H (Below 𝓤 H A (nearer w ys) At t) (afterBlock 𝓤 H (afterSeq 𝓤 H (Wp 𝓤 H (𝓣 .C) (𝓣 .Λ) En body.t-5 (atReturn 𝓤 H En Post)) (atReturn 𝓤 H En Post)))
+
+    -- a turn, from what holds before it
+    abbrev pub Turns : Turn w ys → Type 1
+    Turns t = Sq W (At t) (runs (𝓣 .C) (𝓣 .Λ) En body.turn-1 (anyQ (Turned t)))
