@@ -1,18 +1,16 @@
 -- How long the pieces are: a line's head has 23 bytes, what a slot adds 25 at the most, the twins' line 23.
 -- By the definitions. Assumes nothing.
 use mathlib.Core.Path.{_≡_, refl}
-use mathlib.Core.Bool.{Bool, true, false, cond, not, _||_}
+use mathlib.Core.Bool.{Bool, true, false, cond}
 use Prim.Native.Nat.{ℕ, _+_, _*_, _^_, _≤_, _<_}
 use native.Mathlib.Omega.{arith}
 use mathlib.Core.List.{List, [], _∷_, _++_}
 use lib.Dec.{ltb, eqb}
 use lib.ListN.{length, length-append, length-replicate}
 use Rattle.walk.specs.declared.Walk.{Walk}
-use Rattle.walk.specs.Record.{isRunning}
-use Rattle.row.specs.declared.Air.{Air}
 use Rattle.row.specs.declared.Desk.{Desk}
 use Rattle.rack.specs.Output.{decimal}
-use Rattle.picture.specs.Drawn.{sign, roundShown, tailShown, lineHead, slotDrawn, twinsLine}
+use Rattle.picture.specs.Drawn.{roundShown, tailShown, lineHead, twinsLine}
 use Rattle.picture.proofs.Pieces.{length-tail}
 
 pub length-either : (t : Bool) (x y : List ℕ) (n : ℕ) → length x ≤ n → length y ≤ n → length (cond t x y) ≤ n

@@ -1,21 +1,20 @@
 -- What is drawn has 19,303 bytes at the most. By induction over the slots: what is left to draw, and what stands of a line that has begun, are
 -- within 40 bytes for each round from this one to 481. Assumes nothing.
-use mathlib.Core.Path.{_≡_, refl, sym, ap, _∙_}
+use mathlib.Core.Path.{_≡_, refl, ap}
 use mathlib.Core.Bool.{Bool, true, false, cond, not, _||_}
 use Prim.Native.Nat.{ℕ, zero, suc, _+_, _-_, _*_, _≤_, _<_}
 use native.Mathlib.Omega.{arith}
-use mathlib.Core.List.{List, [], _∷_, _++_}
-use borrow.Author.Tests.{eqb-true, eqb-false, eq-eqb, ne-eqb}
+use mathlib.Core.List.{List, [], _∷_}
+use borrow.Author.Tests.{eqb-true, ne-eqb}
 use lib.Dec.{eqb}
 use lib.ListN.{length, length-append}
 use Rattle.walk.specs.declared.Walk.{Walk}
 use Rattle.walk.specs.Record.{isRunning, started}
 use Rattle.walk.proofs.Limits.{Accepted, accepted-of-is-accepted}
 use Rattle.row.specs.declared.Air.{Air}
-use Rattle.row.specs.declared.Desk.{Desk}
 use Rattle.row.specs.Row.{Played, stillAir, rowAir, deskAfter, slotPlayed, cardsOf}
 use Rattle.row.specs.Play.{freshDesk, mostSlots, ended}
-use Rattle.picture.specs.Drawn.{sign, lineHead, slotDrawn, drawnFor, heading, twinsLine, drawn}
+use Rattle.picture.specs.Drawn.{lineHead, slotDrawn, drawnFor, heading, drawn}
 use Rattle.picture.proofs.Lengths.{length-head, length-twins}
 use Rattle.picture.proofs.Moves.{Moves, stops, steps, opens, Fit, fresh-fit, after-fit, desk-moves}
 

@@ -12,7 +12,7 @@ use Rattle.walk.specs.declared.Walk.{Walk}
 use Rattle.walk.specs.declared.Slot.{Slot}
 use Rattle.walk.specs.declared.Slot.the-variants.{Silent, Clashed, Clean}
 use Rattle.walk.specs.Marks.{deepest}
-use Rattle.walk.specs.Record.{mostRounds, isRunning, isAccepted, remade, ended, counted, marked, atNextSlot, openedAt, opened, started}
+use Rattle.walk.specs.Record.{mostRounds, isRunning, isAccepted, remade, ended, counted, marked, atNextSlot, openedAt, opened}
 use Rattle.walk.specs.Hear.{Hearing, refusal, judged, endsAtOnce, noted, listNoted, turned, passed, walkAfter, listAfter, hearing}
 use Rattle.walk.proofs.Accepted.{started-accepted, heard-accepted}
 use Rattle.field.proofs.WalkServed.{walk-heard}

@@ -4,11 +4,10 @@ use mathlib.Core.Path.{_≡_, refl, sym, ap, _∙_}
 use Prim.Native.Nat.{ℕ, zero, suc, _+_, _-_, _*_, _/_, _%_, _^_, _≤_, _<_}
 use native.Mathlib.Nat.{zero-add}
 use native.Mathlib.Numerals.{add-one}
-use native.Mathlib.Decide.{decLt}
 use native.Mathlib.Omega.{arith}
 use mathlib.Core.List.{List, [], _∷_, _++_}
 use borrow.Author.Tests.{lt-ltb, le-ltb}
-use lib.ListN.{length, take, drop, getD, set, replicate, length-append, length-replicate, getD-replicate, List·getD-append}
+use lib.ListN.{length, getD, set, replicate, length-append, length-replicate, getD-replicate, List·getD-append}
 use lib.Pow.{shr-shr}
 use lib.Seq.{getD-at, getD-append-add, paste, paste-zero, paste-suc, take-all}
 use Rattle.rack.specs.Output.{digit, decimal, hexDigits}
@@ -65,7 +64,8 @@ free-place level mask i h =
     let inside : i < length free = rw length-replicate (omega arith) in
     sym (List·getD-append free (hexDigits level mask) 0 i inside ∙ getD-replicate (16 - level) i 0x2d 0 (omega arith))
 
-pub mask-place : (level mask i : ℕ) {d : ℕ} → level ≤ 16 → i < 16 → 16 ≤ i + level → d ≡ digit (mask / 2 ^ (60 - 4 * i) % 16) → d ≡ getD (tailShown level mask) i 0
+pub mask-place : (level mask i : ℕ) {d : ℕ} → level ≤ 16 → i < 16 → 16 ≤ i + level → d ≡ digit (mask / 2 ^ (60 - 4 * i) % 16)
+    → d ≡ getD (tailShown level mask) i 0
 unfolding tailShown
 mask-place level mask i few h k is =
     let free : List ℕ = replicate (16 - level) 0x2d in

@@ -119,13 +119,14 @@ drawing-over {whole} {e} {out} {end} {desk} {row} {first} {k} {at} d over = go (
 
 -- ---- all that is drawn, over the first n cards of a row that was dealt
 
-pub dealt-most : (us : List ℕ) (n : ℕ) {desk : Desk} {row : List Card} → desk ≡ freshDesk → row ≡ cardsOf us → length (wholeOf desk (take n row)) ≤ 19240
+pub dealt-most : (us : List ℕ) (n : ℕ) {desk : Desk} {row : List Card} → desk ≡ freshDesk → row ≡ cardsOf us
+    → length (wholeOf desk (take n row)) ≤ 19240
 unfolding mostSlots
 dealt-most us n d r = rw (d, r, take-cards n us) (walk-most (take n us))
 
-pub drawn-puts : (us : List ℕ) (n : ℕ) {desk₀ desk : Desk} {row : List Card} {m at r : ℕ} {room e out left : List ℕ} → desk₀ ≡ freshDesk → row ≡ cardsOf us
-    → PutsAt 0 heading room m e → Over (wholeOf desk₀ (take n row)) (endOf desk₀ (take n row)) m e desk at out → PutsAt at (twinsLine desk) out r left
-    → r ≤ length room → Puts (drawn (take n us)) room r left
+pub drawn-puts : (us : List ℕ) (n : ℕ) {desk₀ desk : Desk} {row : List Card} {m at r : ℕ} {room e out left : List ℕ} → desk₀ ≡ freshDesk
+    → row ≡ cardsOf us → PutsAt 0 heading room m e → Over (wholeOf desk₀ (take n row)) (endOf desk₀ (take n row)) m e desk at out
+    → PutsAt at (twinsLine desk) out r left → r ≤ length room → Puts (drawn (take n us)) room r left
 unfolding drawn ended mostSlots
 drawn-puts us n {desk₀} {desk} {row} {m} {at} {r} {room} {e} {out} {left} d c p o q h =
     let play : playOf desk₀ (take n row) ≡ playOf freshDesk (cardsOf (take n us)) = λ i. playOf (d i) ((ap (take n) c ∙ take-cards n us) i) in

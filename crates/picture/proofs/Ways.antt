@@ -6,12 +6,12 @@ use mathlib.Core.List.{List, _++_}
 use borrow.Author.Tests.{lt-leb, le-leb, eq-eqb, ne-eqb}
 use native.Mathlib.Omega.{arith}
 use lib.IntN.{ℤ, pos}
-use lib.ListN.{length, take, drop, length-append}
+use lib.ListN.{length, take, length-append}
 use lib.Seq.{take-append-seam, drop-append-add, drop-drop}
 use Rattle.lent.specs.Lent.{over, placed, refused}
 use Rattle.lent.specs.Puts.{Puts}
 use Rattle.rack.specs.declared.input.Lines.{Lines}
-use Rattle.rack.specs.Input.{badLine, uids}
+use Rattle.rack.specs.Input.{uids}
 use Rattle.rack.specs.Lines.{freshLines, readFrom}
 use Rattle.rack.specs.Bench.{printed, mostPrinted, benchAnswer, benchLeaves, Prints}
 use Rattle.rack.proofs.Reading.{Reads, reads-input}

@@ -13,7 +13,8 @@ use Rattle.picture.proofs.drawing.draw.Statement.{statement}
 use Rattle.picture.proofs.drawing.draw.Tie as tie
 
 abbrev Inv-loop : tie.InvT-loop
-Inv-loop n out₀ at₀ row₀ desk₀ count₀ out at row desk count = (length out ≡ length out₀) × Drawing (wholeOf desk₀ (take n row₀)) (endOf desk₀ (take n row₀)) at₀ out₀ count desk (take n row) at out
+Inv-loop n out₀ at₀ row₀ desk₀ count₀ out at row desk count =
+    (length out ≡ length out₀) × Drawing (wholeOf desk₀ (take n row₀)) (endOf desk₀ (take n row₀)) at₀ out₀ count desk (take n row) at out
 
 abbrev μ-loop : tie.MeasureT-loop
 μ-loop n out₀ at₀ row₀ desk₀ count₀ out at row desk count = 7696 - count
@@ -35,7 +36,8 @@ loop-holds c =
     let args = c .before .before .before .before .before .before .before .before .args in
     let put = c .before .before .before .before .put in
     let deal = c .before .deal in
-    (refl, drawing-none _ _ _ _ (subst Fit (sym (c .fresh .ensures)) fresh-fit) (dealt-most _ (args .n) (c .fresh .ensures) (deal .ensures)) (omega (arith, put .ensures .next)))
+    let most = dealt-most _ (args .n) (c .fresh .ensures) (deal .ensures) in
+    (refl, drawing-none _ _ _ _ (subst Fit (sym (c .fresh .ensures)) fresh-fit) most (omega (arith, put .ensures .next)))
 
 goes-on-requires : tie.Need-goes-on-requires Inv-loop μ-loop
 goes-on-requires c κs = tt
@@ -92,7 +94,9 @@ returns c =
     let goes-on = c .before .before .before .before .before .goes-on in
     let if1 = c .before .before .before .before .if1 in
     let put-twins = c .before .before .put-twins in
-    drawn-puts (args .uids) (args .n) (fresh .ensures) (deal .ensures) (put .ensures) (drawing-over (loop .inv .1) (sym (goes-on .ensures) ∙ if1 .left)) (put-twins .ensures) (omega (arith, drawing-room (loop .inv .1), put .ensures .next, put-twins .ensures .next, length-twins (loop .desk), pre))
+    let over = drawing-over (loop .inv .1) (sym (goes-on .ensures) ∙ if1 .left) in
+    drawn-puts (args .uids) (args .n) (fresh .ensures) (deal .ensures) (put .ensures) over (put-twins .ensures)
+    (omega (arith, drawing-room (loop .inv .1), put .ensures .next, put-twins .ensures .next, length-twins (loop .desk), pre))
 
 pub draw-spec : {M : Type 1} → statement M
 draw-spec =

@@ -34,7 +34,8 @@ returns c =
     let sign = c .before .before .before .before .before .sign in
     let ends-line = c .before .before .before .before .ends-line in
     let put-sign = c .before .before .put-sign in
-    slot-puts _ _ _ (sign .ensures) (ends-line .ensures) (put-head .ensures) (put-sign .ensures) (omega (arith, put-head .ensures .next, head-most (args .walk) (accepted-of-is-accepted _ (pre .0) .level)))
+    slot-puts _ _ _ (sign .ensures) (ends-line .ensures) (put-head .ensures) (put-sign .ensures)
+    (omega (arith, put-head .ensures .next, head-most (args .walk) (accepted-of-is-accepted _ (pre .0) .level)))
 
 pub put-slot-spec : {M : Type 1} → statement M
 put-slot-spec =

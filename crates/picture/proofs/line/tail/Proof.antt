@@ -34,7 +34,8 @@ loop-less c = omega arith
 loop-again : tie.Need-loop-again Inv-loop μ-loop
 loop-again c =
     let loop = c .before .before .loop in
-    (omega arith, length-set (loop .bytes) (loop .i) _ ∙ loop .inv .1, tail-more _ _ (loop .i) _ (loop .bytes) (omega arith) (omega arith) (omega arith) (loop .inv .2) (c .tail-byte .ensures))
+    let more = tail-more _ _ (loop .i) _ (loop .bytes) (omega arith) (omega arith) (omega arith) (loop .inv .2) (c .tail-byte .ensures) in
+    (omega arith, length-set (loop .bytes) (loop .i) _ ∙ loop .inv .1, more)
 
 returns : tie.Need-returns Inv-loop μ-loop
 returns c = tail-all _ _ (c .before .loop .i) _ (omega arith) (omega arith) (c .before .loop .inv .2)

@@ -26,7 +26,8 @@ returns-2 c =
     let read = c .before .before .before .before .before .before .read in
     let if2 = c .before .before .before .before .if2 in
     let bench = c .before .before .bench in
-    rw (toZ-ofZ w64 (bench .result) (sfits-of (bench .ok))) (pictures-wrong _ _ _ (read .result) _ (read .ensures) (if2 .taken) (omega arith) (bench .ensures))
+    rw (toZ-ofZ w64 (bench .result) (sfits-of (bench .ok)))
+    (pictures-wrong _ _ _ (read .result) _ (read .ensures) (if2 .taken) (omega arith) (bench .ensures))
 
 draw-requires : tie.Need-draw-requires
 draw-requires c κs = search needs
@@ -46,7 +47,8 @@ returns-3 c =
     let read = c .before .before .before .before .before .before .before .before .before .before .before .read in
     let draw = c .before .before .before .before .before .before .draw in
     let put-printed = c .before .before .put-printed in
-    rw (toZ-ofZ w64 (put-printed .result) (sfits-of (put-printed .ok))) (pictures-drawn _ _ _ _ (read .result) (draw .result) _ (read .ensures) (omega arith) (omega arith) (draw .ensures) (put-printed .ensures .0) (put-printed .ensures .1))
+    rw (toZ-ofZ w64 (put-printed .result) (sfits-of (put-printed .ok)))
+    (pictures-drawn _ _ _ _ (read .result) (draw .result) _ (read .ensures) (omega arith) (omega arith) (draw .ensures) (put-printed .ensures .0) (put-printed .ensures .1))
 
 pub picture-spec : {M : Type 1} → statement M
 picture-spec =

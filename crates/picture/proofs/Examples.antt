@@ -1,0 +1,82 @@
+-- 01's bench field, drawn: for the page's three lines the heading, two rounds and the page's printed text, byte for byte. The walk is worked out over
+-- the UIDs alone. Assumes nothing.
+use mathlib.Core.Path.{_≡_, refl, ap, subst, _∙_}
+use Prim.Native.Nat.{ℕ, _*_, _^_, _<_}
+use native.Mathlib.Omega.{arith}
+use mathlib.Core.List.{List, [], _∷_, _++_, append-nil}
+use lib.ListN.{getD}
+use Rattle.tails.specs.Tails.{ending}
+use Rattle.walk.specs.Marks.{levels, waits, withMark, withoutMark, lowestFrom, lowest, deepestOf, deepest}
+use Rattle.walk.specs.Record as walk
+use Rattle.walk.specs.Record.{places, mostRounds, maskLength, isRunning, remade, counted, marked, atNextSlot, openedMask, openedAt, opened, noMarks, started}
+use Rattle.walk.specs.Hear.{endsAtOnce, noted, listNoted, turned, passed, walkAfter, listAfter}
+use Rattle.field.proofs.Called.{called, slotOf}
+use Rattle.field.proofs.Stood.{stood}
+use Rattle.field.proofs.Examples.{three, threeEnd, field-of-three}
+use Rattle.row.specs.Row.{Played, noBytes}
+use Rattle.row.specs.Play.{noUids, mostSlots, ended}
+use Rattle.row.proofs.SlotsAlike.{benchOf}
+use Rattle.row.proofs.Meaning.{tagsOf, tags-obey, tags-answer, freshField, bench-is-a-field}
+use Rattle.rack.specs.Input.{linesFrom, lines, digitOf, allDigits, isUid, numberFrom, uidOf, badFrom, badLine, uidsOf, uids}
+use Rattle.rack.specs.Output.{digit, decimal, hexDigits}
+use Rattle.rack.specs.Bench.{printed}
+use Rattle.rack.proofs.InputMeaning.{input-uids-fit}
+use Rattle.rack.proofs.Examples.{threeLines, threePrinted, bench}
+use Rattle.picture.specs.Drawn.{roundShown, tailShown, lineHead, heading, twinsLine, drawn, pictured}
+use Rattle.picture.specs.Meaning.{signFor}
+use Rattle.picture.proofs.OverUids.{signed, overUids, bench-drawn}
+
+-- the heading, round 1 over all, and round 2 over those that end in 1
+abbrev pub threeDrawn : List ℕ
+threeDrawn =
+    0x72 ∷ 0x6f ∷ 0x75 ∷ 0x6e ∷ 0x64 ∷ 0x20
+    ∷ 0x74 ∷ 0x61 ∷ 0x69 ∷ 0x6c ∷ 0x20 ∷ 0x20 ∷ 0x20 ∷ 0x20 ∷ 0x20 ∷ 0x20 ∷ 0x20 ∷ 0x20 ∷ 0x20 ∷ 0x20 ∷ 0x20 ∷ 0x20 ∷ 0x20
+    ∷ 0x30 ∷ 0x31 ∷ 0x32 ∷ 0x33 ∷ 0x34 ∷ 0x35 ∷ 0x36 ∷ 0x37 ∷ 0x38 ∷ 0x39 ∷ 0x41 ∷ 0x42 ∷ 0x43 ∷ 0x44 ∷ 0x45 ∷ 0x46 ∷ 0x0a
+    ∷ 0x20 ∷ 0x20 ∷ 0x20 ∷ 0x20 ∷ 0x31 ∷ 0x20
+    ∷ 0x2d ∷ 0x2d ∷ 0x2d ∷ 0x2d ∷ 0x2d ∷ 0x2d ∷ 0x2d ∷ 0x2d ∷ 0x2d ∷ 0x2d ∷ 0x2d ∷ 0x2d ∷ 0x2d ∷ 0x2d ∷ 0x2d ∷ 0x2d ∷ 0x20
+    ∷ 0x2e ∷ 0x23 ∷ 0x2e ∷ 0x2e ∷ 0x2e ∷ 0x6f ∷ 0x2e ∷ 0x2e ∷ 0x2e ∷ 0x2e ∷ 0x2e ∷ 0x2e ∷ 0x2e ∷ 0x2e ∷ 0x2e ∷ 0x2e ∷ 0x0a
+    ∷ 0x20 ∷ 0x20 ∷ 0x20 ∷ 0x20 ∷ 0x32 ∷ 0x20
+    ∷ 0x2d ∷ 0x2d ∷ 0x2d ∷ 0x2d ∷ 0x2d ∷ 0x2d ∷ 0x2d ∷ 0x2d ∷ 0x2d ∷ 0x2d ∷ 0x2d ∷ 0x2d ∷ 0x2d ∷ 0x2d ∷ 0x2d ∷ 0x31 ∷ 0x20
+    ∷ 0x2e ∷ 0x6f ∷ 0x6f ∷ 0x2e ∷ 0x2e ∷ 0x2e ∷ 0x2e ∷ 0x2e ∷ 0x2e ∷ 0x2e ∷ 0x2e ∷ 0x2e ∷ 0x2e ∷ 0x2e ∷ 0x2e ∷ 0x2e ∷ 0x0a ∷ []
+
+three-over : heading ++ overUids three mostSlots (record { walk = started 256; list = noUids }) ≡ threeDrawn
+unfolding heading mostSlots overUids signed signFor lineHead roundShown tailShown decimal digit hexDigits stood isRunning started noMarks noUids walkAfter listAfter endsAtOnce noted listNoted passed turned walk.ended counted marked atNextSlot opened openedAt remade openedMask maskLength withMark withoutMark waits lowest lowestFrom deepest deepestOf levels places mostRounds called ending slotOf
+three-over = refl
+
+-- ---- the lines of the input
+
+none-wrong : badLine threeLines ≡ 0
+unfolding badLine lines linesFrom badFrom isUid allDigits digitOf
+none-wrong = refl
+
+uids-three : uids threeLines ≡ three
+unfolding uids lines linesFrom uidsOf uidOf numberFrom digitOf
+uids-three = refl
+
+three-fit : (i : ℕ) → getD three i 0 < 2 ^ 64
+three-fit = subst (λ (us : List ℕ). (i : ℕ) → getD us i 0 < 2 ^ 64) uids-three (input-uids-fit threeLines none-wrong)
+
+-- ---- the end of the walk
+
+three-ends : ended three .walk ≡ threeEnd 256
+unfolding ended mostSlots benchOf freshField noUids noBytes
+three-ends =
+    ap (λ (p : Played). p .desk .walk) (bench-is-a-field three three-fit (16 * 481))
+    ∙ field-of-three .ends 256 (tagsOf three) noUids noBytes (tags-obey three three-fit) (omega arith) (omega arith) (tags-answer three)
+
+no-twins : twinsLine (ended three) ≡ []
+unfolding twinsLine
+no-twins = rw three-ends refl
+
+-- ---- the picture
+
+pub record ThreeDrawn : Type 0 where
+  pub draws : pictured threeLines ≡ threeDrawn ++ threePrinted
+
+three-drawn : drawn three ≡ threeDrawn
+unfolding drawn
+three-drawn = rw (no-twins, append-nil, bench-drawn three three-fit mostSlots) three-over
+
+pub picture-of-three : ThreeDrawn
+unfolding pictured
+picture-of-three = record { draws = rw (none-wrong, uids-three, three-drawn, bench .prints) refl }
