@@ -1,4 +1,4 @@
--- The answer in the air, byte for byte as it is written, and what the walk makes of it. By computation.
+-- The answer in the air: what a card's reply makes of it, byte for byte how it is written, and what the walk makes of it. By computation.
 -- Assumes nothing.
 use Prim.Native.Nat.{ℕ}
 use mathlib.Core.List.{List, [], _∷_}
@@ -6,10 +6,16 @@ use mathlib.Core.Bool.{Bool, true, false, cond}
 use mathlib.Core.Path.{_≡_, refl, _∙_, ap}
 use lib.Dec.{eqb}
 use lib.IntN.{ℤ}
+use types.Run.{OneOf, miss}
+use denote.Enum.Declared.{tagOf}
 use Rattle.lent.specs.Lent.{over, placed}
 use Rattle.crc.specs.Check.{checkBytes, sealed}
 use Rattle.frames.specs.Field.{fieldBytes, putLeaves, PutsField}
 use Rattle.frames.specs.Frame.{sealLeaves, Seals}
+use Rattle.card.specs.declared.Card.{Card}
+use Rattle.card.specs.declared.Reply.{Reply}
+use Rattle.card.specs.declared.Reply.the-variants as reply
+use Rattle.card.proofs.Reply as R°
 use Rattle.walk.specs.declared.Walk.{Walk}
 use Rattle.walk.specs.declared.Kind.{Kind}
 use Rattle.walk.specs.declared.Kind.the-variants as kinds
@@ -17,7 +23,18 @@ use Rattle.walk.specs.declared.Heard.{Heard}
 use Rattle.walk.specs.Hear.{judged, Hearing, hearing, Hears}
 use Rattle.row.specs.declared.Air.{Air}
 use Rattle.row.specs.declared.Desk.{Desk}
-use Rattle.row.specs.Row.{airKind, airBytes, noAnswer, bytesHeard, deskAfter}
+use Rattle.row.specs.Row.{crowded, airWith, airKind, airBytes, noAnswer, bytesHeard, deskAfter}
+
+-- a reply that is neither silence nor present, as the last arm of the match has it
+pub other-crowds : (air : Air) (c : Card) (r : Reply) → OneOf (1 ∷ 2 ∷ 4 ∷ 5 ∷ 6 ∷ []) (tagOf R°.the-type r) → crowded air ≡ airWith air c r
+unfolding airWith
+other-crowds air c reply.Silence h = absurd (miss (1 ∷ 2 ∷ 4 ∷ 5 ∷ 6 ∷ []) 0 tt h)
+other-crowds air c (reply.Error code) h = refl
+other-crowds air c reply.Done h = refl
+other-crowds air c reply.Present h = absurd (miss (1 ∷ 2 ∷ 4 ∷ 5 ∷ 6 ∷ []) 3 tt h)
+other-crowds air c (reply.Blocks first n option) h = refl
+other-crowds air c (reply.Status first n) h = refl
+other-crowds air c reply.Information h = refl
 
 -- room for an answer, with the DSFID
 abbrev pub begun : ℕ → List ℕ

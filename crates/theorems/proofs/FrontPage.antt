@@ -90,6 +90,12 @@ use Rattle.rack.proofs.InputMeaning.{printed-meets-demand3}
 use Rattle.rack.proofs.Start.{printed-of-start}
 use Rattle.rack.proofs.Unique.{read-unique, prints-unique}
 use Rattle.rack.proofs.Examples.{Bench, bench}
+use Rattle.picture.specs.Drawn.{pictured, Pictures}
+use Rattle.picture.specs.Meaning.{signs}
+use Rattle.picture.proofs.Signs.{every-sign}
+use Rattle.picture.proofs.Start.{pictured-of-start}
+use Rattle.picture.proofs.Unique.{pictures-unique}
+use Rattle.picture.proofs.Examples.{ThreeDrawn, picture-of-three}
 use Rattle.board.specs.Calls.{Left, Gives}
 use Rattle.board.specs.Walked.{HearsInPlace, AsksInPlace}
 use Rattle.board.proofs.Unique.{gives-unique}
@@ -185,6 +191,20 @@ what-is-printed = printed-meets-demand3
 -- No input needs more to be read than its first 1,701 bytes.
 the-start-is-enough : (k : ℕ) (input : List ℕ) → 1701 ≤ k → printed (take k input) ≡ printed input
 the-start-is-enough = printed-of-start
+
+-- ---- The picture
+
+-- Each sign of the picture says what the walk makes of the slot, silent, clean or clash, and how many of the input's UIDs the slot calls.
+what-is-drawn : signs
+what-is-drawn = every-sign
+
+-- No input needs more to be read than its first 1,701 bytes.
+the-start-is-drawn : (k : ℕ) (input : List ℕ) → 1701 ≤ k → pictured (take k input) ≡ pictured input
+the-start-is-drawn = pictured-of-start
+
+-- The field of three, drawn.
+three-drawn : ThreeDrawn
+three-drawn = picture-of-three
 
 -- ---- Every promise allows one result
 
@@ -333,6 +353,9 @@ read-once = read-unique
 
 bench-once : (input room : List ℕ) (r s : ℤ) (left right : List ℕ) → Prints input room r left → Prints input room s right → (r ≡ s) × (left ≡ right)
 bench-once = prints-unique
+
+picture-once : (input room : List ℕ) (r s : ℤ) (left right : List ℕ) → Pictures input room r left → Pictures input room s right → (r ≡ s) × (left ≡ right)
+picture-once = pictures-unique
 
 -- ---- The examples of the rules page, under a single statement
 
