@@ -1,14 +1,14 @@
 -- Whatever a walk hears, true or false, it lists no UID twice. By the weight of one UID, which is listed or lies ahead at most once.
 -- Assumes nothing.
 use mathlib.Core.Path.{_≡_, refl, sym, ap, _∙_}
-use mathlib.Core.Bool.{Bool, true, false, cond}
-use Prim.Native.Nat.{ℕ, zero, suc, _+_, _*_, _%_, _^_, _≤_, _<_}
+use mathlib.Core.Bool.{Bool, true, false}
+use Prim.Native.Nat.{ℕ, suc, _+_, _%_, _^_, _≤_, _<_}
 use native.Mathlib.Decide.{ℕ-discrete}
 use native.Mathlib.Numerals.{add-one}
 use native.Mathlib.Omega.{arith}
 use mathlib.Core.List.{List, [], _∷_, _++_}
-use borrow.Author.Tests.{eq-eqb, ne-eqb, ltb-true}
-use lib.Dec.{eqb, ltb}
+use borrow.Author.Tests.{eq-eqb, eqb-true}
+use lib.Dec.{eqb}
 use lib.ListN.{length, take, set, length-set}
 use lib.Seq.{take-suc, take-set-le, getD-set-same}
 use Rattle.tails.specs.Sum.{one, tally, times}
@@ -18,10 +18,13 @@ use Rattle.walk.specs.declared.Walk.{Walk}
 use Rattle.walk.specs.declared.Slot.{Slot}
 use Rattle.walk.specs.declared.Slot.the-variants.{Silent, Clashed, Clean}
 use Rattle.walk.specs.Marks.{deepest}
-use Rattle.walk.specs.Record.{remade, places, twins, full, started, counted, marked, atNextSlot, openedAt, opened}
+use Rattle.walk.specs.Record.{remade, started, counted, marked, atNextSlot, openedAt, opened}
 use Rattle.walk.specs.Hear.{endsAtOnce, noted, listNoted}
-use Rattle.field.proofs.Steady.{Steady, start-steady, silent-steady, clean-steady, clash-steady, next-steady, open-steady}
-use Rattle.field.proofs.Ahead.{slotTail, toHear, ahead, ahead-start, ahead-hear, ahead-counted, ahead-next, ahead-marked, ahead-opened}
+use Rattle.walk.proofs.HearWays.{clean-goes-on}
+use Rattle.field.proofs.Levels.{opened-mask-below}
+use Rattle.field.proofs.Steady.{Steady, start-steady, noted-steady, next-steady, open-steady}
+use Rattle.field.proofs.WaitSums.{slotTail}
+use Rattle.field.proofs.Ahead.{ahead, ahead-start, ahead-hear, ahead-counted, ahead-next, ahead-marked, ahead-opened}
 use Rattle.field.proofs.Weights.{weigh, weigh-parts, weigh-start}
 
 -- the weight of one UID
@@ -31,9 +34,6 @@ alone u = weigh (λ x. 1) (u ∷ [])
 -- a walk with its list, about to hear slot t of its round
 pub record Walks (w : Walk) (list : List ℕ) (t : ℕ) : Type 0 where
   pub steady : Steady w t
-  pub rounds-from : 1 ≤ w .rounds
-  pub rounds-to : w .rounds ≤ 481
-  pub count-fits : w .count ≤ 64
   pub places-fit : 64 ≤ length list
   pub single : (u : ℕ) → times u (take (w .count) list) + ahead (alone u) w t ≤ 1
 
@@ -53,30 +53,16 @@ listed-more v n u list h =
     rw (same, tally-append v (take n list) (u ∷ [])) (omega arith)
 
 -- what a slot that ends nothing leaves room for
-pub clash-level : (w : Walk) → endsAtOnce w Clashed ≡ 0 → w .level < 15
-unfolding endsAtOnce
-clash-level w h = go (ltb (w .level) 15) refl h
-  where
-    go : (b : Bool) → ltb (w .level) 15 ≡ b → _≡_ {A = ℕ} (cond b 0 2) 0 → w .level < 15
-    go true e f = ltb-true (w .level) 15 e
-    go false e f = absurd (omega arith)
-
-pub clean-count : (w : Walk) (u : ℕ) → endsAtOnce w (Clean u) ≡ 0 → w .count < 64
-unfolding endsAtOnce places
-clean-count w u h = go (ltb (w .count) 64) refl h
-  where
-    go : (b : Bool) → ltb (w .count) 64 ≡ b → _≡_ {A = ℕ} (cond b 0 3) 0 → w .count < 64
-    go true e f = ltb-true (w .count) 64 e
-    go false e f = absurd (omega arith)
+pub clean-room : (w : Walk) (list : List ℕ) (x : ℕ) → 64 ≤ length list → endsAtOnce w (Clean x) ≡ 0 → w .count < length list
+clean-room w list x h e =
+    let few : w .count < 64 = clean-goes-on w {slot = Clean x} {uid = x} refl e in
+    omega arith
 
 pub start-walks : (family : ℕ) (list : List ℕ) → 64 ≤ length list → Walks (started family) list 0
 unfolding started times tally
 start-walks family list h =
     record {
       steady = start-steady family;
-      rounds-from = omega arith;
-      rounds-to = omega arith;
-      count-fits = omega arith;
       places-fit = h;
       single = λ u.
           let whole : ahead (alone u) (started family) 0 ≡ 1 = ahead-start (alone u) family ∙ weigh-start (λ x. 1) (u ∷ []) in
@@ -84,111 +70,70 @@ start-walks family list h =
     }
 
 -- the weight of the slot that a UID fits
-alone-here : (u j m : ℕ) → u % 16 ^ j ≡ m → alone u j m ≡ 1
-unfolding weigh ending tally
-alone-here u j m h = rw (eq-eqb (u % 16 ^ j) m h)
+fits-here : (x u j m : ℕ) → x % 16 ^ j ≡ m → one (eqb x u) ≤ alone u j m
+unfolding one weigh ending tally
+fits-here x u j m f = go (eqb x u) refl
+  where
+    go : (b : Bool) → eqb x u ≡ b → one b ≤ alone u j m
+    go true e = rw (eq-eqb (u % 16 ^ j) m (rw (eqb-true x u e) at f)) (omega arith)
+    go false e = omega arith
 
-one-fits : (b : Bool) → one b ≤ 1
-unfolding one
-one-fits true = omega arith
-one-fits false = omega arith
+-- ---- a slot that does not end the walk
 
-one-none : (n : ℕ) → one false ≤ n
-unfolding one
-one-none n = omega arith
+noted-places : (w : Walk) (list : List ℕ) (slot : Slot) → 64 ≤ length list → 64 ≤ length (listNoted w slot list)
+unfolding listNoted
+noted-places w list Silent h = h
+noted-places w list Clashed h = h
+noted-places w list (Clean x) h = rw length-set h
 
-fits-here : (x u j m : ℕ) → Dec (x ≡ u) → x % 16 ^ j ≡ m → one (eqb x u) ≤ alone u j m
-fits-here x u j m (yes e) f =
-    let here : alone u j m ≡ 1 = alone-here u j m (ap (λ (y : ℕ). y % 16 ^ j) (sym e) ∙ f) in
-    let most : one (eqb x u) ≤ 1 = one-fits (eqb x u) in
-    omega arith
-fits-here x u j m (no e) f = rw (ne-eqb x u e) (one-none (alone u j m))
+-- a UID that is listed was ahead in this slot
+clean-single : (w : Walk) (list : List ℕ) (x u : ℕ) → w .slot < 16 → Walks w list (w .slot) → w .count < length list → Fits w (Clean x)
+    → times u (take (w .count + 1) (set list (w .count) x)) + ahead (alone u) (counted w) (suc (w .slot)) ≤ 1
+unfolding Fits times
+clean-single w list x u h g room f =
+    let tail : ℕ = slotTail (w .level) (w .mask) (w .slot) in
+    let more = listed-more (λ y. one (eqb y u)) (w .count) x list room in
+    let heard = ahead-hear (alone u) w (w .slot) h in
+    let same = ahead-counted (alone u) w (suc (w .slot)) in
+    let here : one (eqb x u) ≤ alone u (suc (w .level)) tail = fits-here x u (suc (w .level)) tail f in
+    omega (arith, more, g .single u, heard, same, here)
 
--- a slot that does not end the walk
+noted-single : (w : Walk) (list : List ℕ) (slot : Slot) → w .slot < 16 → Walks w list (w .slot) → endsAtOnce w slot ≡ 0 → Fits w slot
+    → (u : ℕ) → times u (take (noted w slot .count) (listNoted w slot list)) + ahead (alone u) (noted w slot) (suc (w .slot)) ≤ 1
+unfolding noted listNoted marked counted remade
+noted-single w list Silent h g e f u = omega (arith, g .single u, ahead-hear (alone u) w (w .slot) h)
+noted-single w list Clashed h g e f u =
+    omega (arith, g .single u, ahead-hear (alone u) w (w .slot) h, ahead-marked (alone u) w (suc (w .slot)) h (g .steady))
+noted-single w list (Clean x) h g e f u = clean-single w list x u h g (clean-room w list x (g .places-fit) e) f
+
 pub note-walks : (w : Walk) (list : List ℕ) (slot : Slot) → w .slot < 16 → Walks w list (w .slot) → endsAtOnce w slot ≡ 0 → Fits w slot
     → Walks (noted w slot) (listNoted w slot list) (suc (w .slot))
-unfolding noted listNoted Fits marked counted remade times
-note-walks w list Silent h g e f =
+note-walks w list slot h g e f =
     record {
-      steady = silent-steady w (w .slot) (g .steady);
-      rounds-from = g .rounds-from;
-      rounds-to = g .rounds-to;
-      count-fits = g .count-fits;
-      places-fit = g .places-fit;
-      single = λ u.
-          let before : times u (take (w .count) list) + ahead (alone u) w (w .slot) ≤ 1 = g .single u in
-          let heard = ahead-hear (alone u) w (w .slot) h in
-          omega (arith, before, heard);
+      steady = noted-steady w slot h e (g .steady);
+      places-fit = noted-places w list slot (g .places-fit);
+      single = noted-single w list slot h g e f;
     }
-note-walks w list Clashed h g e f =
-    record {
-      steady = clash-steady w h (clash-level w e) (g .steady);
-      rounds-from = g .rounds-from;
-      rounds-to = g .rounds-to;
-      count-fits = g .count-fits;
-      places-fit = g .places-fit;
-      single = λ u.
-          let before : times u (take (w .count) list) + ahead (alone u) w (w .slot) ≤ 1 = g .single u in
-          let heard = ahead-hear (alone u) w (w .slot) h in
-          let again = ahead-marked (alone u) w (suc (w .slot)) h (g .steady) in
-          omega (arith, before, heard, again);
-    }
-note-walks w list (Clean x) h g e f =
-    record {
-      steady = clean-steady w (w .slot) (g .steady);
-      rounds-from = g .rounds-from;
-      rounds-to = g .rounds-to;
-      count-fits = let room : w .count < 64 = clean-count w x e in omega arith;
-      places-fit = rw length-set (g .places-fit);
-      single = λ u. clean-single u (ℕ-discrete x u);
-    }
-  where
-    clean-single : (u : ℕ) → Dec (x ≡ u) → times u (take (w .count + 1) (set list (w .count) x)) + ahead (alone u) (counted w) (suc (w .slot)) ≤ 1
-    clean-single u d =
-        let room : w .count < length list = let few : w .count < 64 = clean-count w x e in let many : 64 ≤ length list = g .places-fit in omega arith in
-        let more : times u (take (w .count + 1) (set list (w .count) x)) ≡ times u (take (w .count) list) + one (eqb x u) =
-        listed-more (λ y. one (eqb y u)) (w .count) x list room in
-        let before : times u (take (w .count) list) + ahead (alone u) w (w .slot) ≤ 1 = g .single u in
-        let heard = ahead-hear (alone u) w (w .slot) h in
-        let same = ahead-counted (alone u) w (suc (w .slot)) in
-        let here : one (eqb x u) ≤ alone u (suc (w .level)) (slotTail (w .level) (w .mask) (w .slot)) = fits-here x u (suc (w .level)) (slotTail (w .level) (w .mask) (w .slot)) d f in
-        omega (arith, more, before, heard, same, here)
 
-pub next-walks : (w : Walk) (list : List ℕ) (t : ℕ) → Walks w list t → Walks (atNextSlot w) list t
+-- ---- the next slot, the next round
+
+pub next-walks : (w : Walk) (list : List ℕ) (t : ℕ) → w .slot < 15 → Walks w list t → Walks (atNextSlot w) list t
 unfolding atNextSlot remade
-next-walks w list t g =
+next-walks w list t h g =
     record {
-      steady = next-steady w t (g .steady);
-      rounds-from = g .rounds-from;
-      rounds-to = g .rounds-to;
-      count-fits = g .count-fits;
+      steady = next-steady w t h (g .steady);
       places-fit = g .places-fit;
-      single = λ u.
-          let before : times u (take (w .count) list) + ahead (alone u) w t ≤ 1 = g .single u in
-          let same = ahead-next (alone u) w t in
-          omega (arith, before, same);
+      single = λ u. omega (arith, g .single u, ahead-next (alone u) w t);
     }
-
-level-opened : (w : Walk) (j : ℕ) → opened w j .level ≡ suc j
-unfolding opened openedAt remade
-level-opened w j = add-one j
-
--- the mask of the round that is opened
-pub opened-mask-below : (w : Walk) (j : ℕ) → Steady w 16 → deepest (w .marks) ≡ suc j → opened w j .mask < 16 ^ suc j
-opened-mask-below w j h d = rw (← level-opened w j) (open-steady w j h d .mask-fits)
 
 pub open-walks : (w : Walk) (list : List ℕ) (j : ℕ) → Walks w list 16 → deepest (w .marks) ≡ suc j → w .rounds < 481 → Walks (opened w j) list 0
 unfolding opened openedAt remade
 open-walks w list j g d r =
     record {
-      steady = open-steady w j (g .steady) d;
-      rounds-from = omega arith;
-      rounds-to = omega arith;
-      count-fits = g .count-fits;
+      steady = open-steady w j d r (g .steady);
       places-fit = g .places-fit;
       single = λ u.
-          let before : times u (take (w .count) list) + ahead (alone u) w 16 ≤ 1 = g .single u in
           let turned = ahead-opened (alone u) w j (g .steady) d in
-          let parts = weigh-parts (λ x. 1) (u ∷ []) (suc j) (opened w j .mask) (opened-mask-below w j (g .steady) d) in
-          omega (arith, before, turned, parts);
+          let parts = weigh-parts (λ x. 1) (u ∷ []) (suc j) (opened w j .mask) (opened-mask-below w j) in
+          omega (arith, g .single u, turned, parts);
     }

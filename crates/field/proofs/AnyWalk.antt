@@ -21,11 +21,14 @@ use Rattle.walk.specs.declared.Kind.the-variants as kind
 use Rattle.walk.specs.Marks.{deepest}
 use Rattle.walk.specs.Record.{mostRounds, maskLength, isRunning, isAccepted, remade, ended, atNextSlot, openedAt, opened, started}
 use Rattle.walk.specs.Hear.{uidOf, isClean, judged, endsAtOnce, noted, listNoted, turned, passed, walkAfter, listAfter, hearing}
+use Rattle.walk.proofs.Limits.{is-accepted-of-accepted}
+use Rattle.walk.proofs.Accepted.{ended-facts}
 use Rattle.field.specs.Field.{Arrival}
 use Rattle.field.specs.Replies.{Walked, heardIn, heardAll, Holds, anyReplies}
-use Rattle.field.proofs.Ahead.{slotTail, ahead}
+use Rattle.field.proofs.WaitSums.{slotTail}
+use Rattle.field.proofs.Ahead.{ahead}
 use Rattle.field.proofs.AnyReplies.{alone, Walks, Fits, start-walks, note-walks, next-walks, open-walks}
-use Rattle.field.proofs.Accepted.{mask-below, walks-accepted, ended-accepted}
+use Rattle.field.proofs.Accepted.{walks-accepted}
 use Rattle.field.proofs.Steps.{noted-kept, noted-rounds, noted-ending}
 use Rattle.field.proofs.Callers.{slot-tail}
 use Rattle.field.proofs.WalkServed.{walk-heard, ended-heard}
@@ -47,14 +50,14 @@ running-of w h = eq-eqb (w .ending) 0 h
 -- an ending leaves the list
 ends-with : (n e t : ℕ) (w : Walk) (list : List ℕ) → (e ≡ 0 → ⊥) → w .slot < 16 → Walks w list t → Stage n (ended e w) list
 unfolding ended remade isRunning
-ends-with n e t w list h s g = rests (ended-accepted w list t e s g) (ne-eqb e 0 h) (once w list t g)
+ends-with n e t w list h s g = rests (is-accepted-of-accepted (ended e w) (ended-facts w (g .steady .accepted) e)) (ne-eqb e 0 h) (once w list t g)
 
 -- the next slot, the next round
 moves : (n : ℕ) (x : Walk) (list : List ℕ) → Walks x list (suc (x .slot)) → x .slot < 15 → x .ending ≡ 0 → 16 * x .rounds + x .slot ≡ 16 + n
     → Stage (suc n) (atNextSlot x) list
 unfolding atNextSlot remade
 moves n x list g h e c =
-    hears (subst (λ (t : ℕ). Walks (atNextSlot x) list t) (sym (add-one (x .slot))) (next-walks x list (suc (x .slot)) g)) (omega arith) e (omega arith)
+    hears (subst (λ (t : ℕ). Walks (atNextSlot x) list t) (sym (add-one (x .slot))) (next-walks x list (suc (x .slot)) h g)) (omega arith) e (omega arith)
 
 opens : (n j : ℕ) (x : Walk) (list : List ℕ) → Walks x list 16 → x .slot ≡ 15 → x .ending ≡ 0 → 16 * x .rounds + x .slot ≡ 16 + n
     → deepest (x .marks) ≡ suc j → x .rounds < 481 → Stage (suc n) (opened x j) list
@@ -139,7 +142,7 @@ slot-fits w t list Silent g h f = tt
 slot-fits w t list Clashed g h f = tt
 slot-fits w t list (Clean u) g h f =
     eqb-true (u % 16 ^ suc (w .level)) (slotTail (w .level) (w .mask) (w .slot))
-    (sym (slot-tail u (w .level) (w .mask) (w .slot) (mask-below w t (g .steady)) h) ∙ f u refl)
+    (sym (slot-tail u (w .level) (w .mask) (w .slot) (g .steady .accepted .mask) h) ∙ f u refl)
 
 -- ---- slot after slot
 
@@ -166,7 +169,7 @@ holds-of n p (hears g h e c) =
     record {
       accepted = walks-accepted (p .walk) (p .list) (p .walk .slot) h g;
       once = once (p .walk) (p .list) (p .walk .slot) g;
-      ends = λ m. let most : p .walk .rounds ≤ 481 = g .rounds-to in absurd (omega (arith, most, c, h, m));
+      ends = λ m. let most : p .walk .rounds ≤ 481 = g .steady .accepted .last-round in absurd (omega (arith, most, c, h, m));
     }
 holds-of n p (rests r e o) = record { accepted = r; once = o; ends = λ m. e }
 

@@ -116,7 +116,7 @@ judged family tags us p end (fills e many) b =
 -- a walk can't hear for more than 16 × 481 slots
 ends : (family : ℕ) (tags : List Tag) (us : List ℕ) (n : ℕ) (p : Play) → 16 * 481 ≤ n → Stage family tags us n p → Demand3 family tags us p
 ends family tags us n p h (hears g s e f room count b) =
-    let most : p .walk .rounds ≤ 481 = g .walks .rounds-to in
+    let most : p .walk .rounds ≤ 481 = g .walks .steady .accepted .last-round in
     absurd (omega (arith, most, count, s, h))
 ends family tags us n p h (rests a r v b) = judged family tags us p r v b
 

@@ -20,12 +20,13 @@ use Rattle.walk.specs.Marks.{deepest}
 use Rattle.walk.specs.Record.{remade, started, counted, marked, atNextSlot, openedAt, opened}
 use Rattle.walk.specs.Hear.{endsAtOnce, noted, listNoted}
 use Rattle.field.proofs.Waiting.{wait, wait-none}
-use Rattle.field.proofs.Levels.{no-mark}
-use Rattle.field.proofs.Steady.{Steady}
-use Rattle.field.proofs.Ahead.{slotTail, toHear, ahead, ahead-start, ahead-hear, ahead-counted, ahead-next, ahead-marked, ahead-opened}
+use Rattle.field.proofs.Levels.{opened-mask-below}
+use Rattle.field.proofs.Steady.{Steady, mask-tail}
+use Rattle.field.proofs.WaitSums.{slotTail}
+use Rattle.field.proofs.Ahead.{toHear, ahead, ahead-start, ahead-hear, ahead-counted, ahead-next, ahead-marked, ahead-opened}
 use Rattle.field.proofs.Weights.{weigh, weigh-parts, weigh-start, belowAt, below-parts, below-start}
 use Rattle.field.proofs.Shared.{Crowded, start-crowded, marked-crowded, opened-shared, opened-crowded}
-use Rattle.field.proofs.AnyReplies.{Walks, Fits, listed-more, clean-count, start-walks, note-walks, next-walks, opened-mask-below, open-walks}
+use Rattle.field.proofs.AnyReplies.{Walks, Fits, listed-more, clean-room, start-walks, note-walks, next-walks, open-walks}
 use Rattle.field.proofs.Called.{called, slotOf}
 
 -- us the UIDs of the field, about to hear slot t
@@ -81,14 +82,8 @@ slot-alone : (us xs : List ℕ) (w : Walk) → w .slot < 16 → Steady w (w .slo
     → belowAt us (suc (w .level)) (slotTail (w .level) (w .mask) (w .slot)) ≡ 0
 unfolding belowAt
 slot-alone us xs w h g e f =
-    below-none us _ (suc (w .level)) (slotTail (w .level) (w .mask) (w .slot)) (above-below (w .level) (w .mask) (w .slot) (g .mask-fits) h)
+    below-none us _ (suc (w .level)) (slotTail (w .level) (w .mask) (w .slot)) (above-below (w .level) (w .mask) (w .slot) (mask-tail g) h)
     (slot-shared us xs w e ∙ f)
-
-clean-room : (w : Walk) (list : List ℕ) (x : ℕ) {t : ℕ} → Walks w list t → endsAtOnce w (Clean x) ≡ 0 → w .count < length list
-clean-room w list x g e =
-    let few : w .count < 64 = clean-count w x e in
-    let many : 64 ≤ length list = g .places-fit in
-    omega arith
 
 -- a slot that does not end the walk, by those it calls
 note-of : (us xs : List ℕ) (w : Walk) (list : List ℕ) → called us w ≡ xs → w .slot < 16 → Fixed us w list (w .slot) → endsAtOnce w (slotOf xs) ≡ 0
@@ -113,7 +108,7 @@ note-of us (x ∷ []) w list c h g e =
       weighed = λ v.
           let heard = ahead-hear (weigh v us) w (w .slot) h in
           let weight : weigh v us (suc (w .level)) (slotTail (w .level) (w .mask) (w .slot)) ≡ v x + 0 = slot-weight v us (x ∷ []) w c in
-          let more = listed-more v (w .count) x list (clean-room w list x (g .walks) e) in
+          let more = listed-more v (w .count) x list (clean-room w list x (g .walks .places-fit) e) in
           let same = ahead-counted (weigh v us) w (suc (w .slot)) in
           omega (arith, heard, weight, more, same, g .weighed v);
       tails =
@@ -141,26 +136,26 @@ pub note-fixed : (us : List ℕ) (w : Walk) (list : List ℕ) → w .slot < 16 �
     → Fixed us (noted w (slotOf (called us w))) (listNoted w (slotOf (called us w)) list) (suc (w .slot))
 note-fixed us w list h g e = note-of us (called us w) w list refl h g e
 
-pub next-fixed : (us : List ℕ) (w : Walk) (list : List ℕ) (t : ℕ) → Fixed us w list t → Fixed us (atNextSlot w) list t
+pub next-fixed : (us : List ℕ) (w : Walk) (list : List ℕ) (t : ℕ) → w .slot < 15 → Fixed us w list t → Fixed us (atNextSlot w) list t
 unfolding atNextSlot remade
-next-fixed us w list t g =
+next-fixed us w list t h g =
     record {
-      walks = next-walks w list t (g .walks);
+      walks = next-walks w list t h (g .walks);
       weighed = λ v. let same = ahead-next (weigh v us) w t in omega (arith, same, g .weighed v);
       tails = let same = ahead-next (belowAt us) w t in omega (arith, same, g .tails);
       crowded = g .crowded;
     }
 
-pub open-fixed : (us : List ℕ) (w : Walk) (list : List ℕ) (j : ℕ) → Fixed us w list 16 → deepest (w .marks) ≡ suc j → j < 15 → w .rounds < 481
+pub open-fixed : (us : List ℕ) (w : Walk) (list : List ℕ) (j : ℕ) → Fixed us w list 16 → deepest (w .marks) ≡ suc j → w .rounds < 481
     → Fixed us (opened w j) list 0
 unfolding opened openedAt remade
-open-fixed us w list j g d n r =
+open-fixed us w list j g d r =
     let steady : Steady w 16 = g .walks .steady in
     record {
       walks = open-walks w list j (g .walks) d r;
       weighed = λ v.
           let turned = ahead-opened (weigh v us) w j steady d in
-          let parts = weigh-parts v us (suc j) (opened w j .mask) (opened-mask-below w j steady d) in
+          let parts = weigh-parts v us (suc j) (opened w j .mask) (opened-mask-below w j) in
           omega (arith, turned, parts, g .weighed v);
       tails =
           let turned = ahead-opened (belowAt us) w j steady d in

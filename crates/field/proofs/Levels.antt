@@ -3,14 +3,17 @@
 use mathlib.Core.Path.{_≡_}
 use Prim.Native.Nat.{ℕ, suc, _+_, _*_, _%_, _^_, _<_}
 use native.Mathlib.Decide.{ℕ-discrete, decLt}
-use native.Mathlib.Nat.{mod-lt}
+use native.Mathlib.Numerals.{add-one}
 use native.Mathlib.Omega.{arith}
 use mathlib.Core.List.{List}
 use lib.ListN.{length, getD, set, List·getD-eq-default}
 use lib.Seq.{getD-set-same, getD-set-other}
-use Rattle.tails.proofs.Digits.{digits-of-bits, power-positive, above-below}
-use Rattle.walk.specs.Marks.{deepestOf, deepest}
-use Rattle.walk.specs.Record.{maskLength, noMarks, openedMask}
+use Rattle.tails.proofs.Digits.{digits-of-bits}
+use Rattle.walk.specs.declared.Walk.{Walk}
+use Rattle.walk.specs.Marks.{lowest, deepestOf, deepest}
+use Rattle.walk.specs.Record.{maskLength, noMarks, openedMask, remade, openedAt, opened}
+use Rattle.walk.proofs.Levels.{lowest-is-slot}
+use Rattle.walk.proofs.Limits.{opened-mask-fits}
 use Rattle.field.proofs.Waiting.{deepest-last}
 use Rattle.field.proofs.Scans.{deepest-of-last}
 
@@ -45,7 +48,8 @@ pub opened-mask : (mask j s : ℕ) → openedMask mask j s ≡ mask % 16 ^ j + s
 unfolding openedMask maskLength
 opened-mask mask j s = rw (digits-of-bits j)
 
-pub opened-mask-fits : (mask j s : ℕ) → s < 16 → openedMask mask j s < 16 ^ (j + 1)
-opened-mask-fits mask j s h =
-    let next : j + 1 ≡ suc j = omega arith in
-    rw (opened-mask mask j s, next) (above-below j (mask % 16 ^ j) s (mod-lt mask (power-positive j)) h)
+pub opened-mask-below : (w : Walk) (j : ℕ) → opened w j .mask < 16 ^ suc j
+unfolding opened openedAt remade maskLength
+opened-mask-below w j =
+    let m : ℕ = getD (w .marks) j 0 in
+    rw (digits-of-bits (j + 1), add-one) at (opened-mask-fits (w .mask) j (lowest m) (lowest-is-slot m))

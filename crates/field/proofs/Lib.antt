@@ -3,6 +3,7 @@ pub mod Scans
 pub mod Waiting
 pub mod Levels
 pub mod Steady
+pub mod WaitSums
 pub mod Ahead
 pub mod Weights
 pub mod Opened

@@ -14,7 +14,8 @@ use Rattle.tails.proofs.Deeper.{deeper-below}
 use Rattle.walk.specs.declared.Walk.{Walk}
 use Rattle.field.proofs.Waiting.{wait}
 use Rattle.field.proofs.Steady.{Steady}
-use Rattle.field.proofs.Ahead.{slotTail, waiting, toHear, ahead, waiting-tot}
+use Rattle.field.proofs.WaitSums.{slotTail, waiting, waiting-tot}
+use Rattle.field.proofs.Ahead.{toHear, ahead}
 use Rattle.field.proofs.Weights.{weigh, belowAt}
 use Rattle.field.proofs.Opened.{deeperOf, shared-of-opened}
 

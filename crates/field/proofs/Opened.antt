@@ -15,7 +15,7 @@ use Rattle.tails.proofs.Sums.{tot-le, tot-add, tot-at-most}
 use Rattle.tails.proofs.Tally.{tally-cong, tally-zero, tally-ending, length-ending}
 use Rattle.tails.proofs.Digits.{power-positive, tail-tail, above-tail}
 use Rattle.tails.proofs.Deeper.{deeper, deeper-here}
-use Rattle.field.proofs.Ahead.{slotTail, waiting, waiting-zero, waiting-tot}
+use Rattle.field.proofs.WaitSums.{slotTail, waiting, waiting-zero, waiting-tot}
 use Rattle.field.proofs.Weights.{weigh}
 
 -- 1 for a UID that ends in the tail t of i digits

@@ -1,8 +1,8 @@
 -- Each slot that waits is one that two or more UIDs of a fixed field end in: kept by marking such a slot and by opening one.
 -- By the levels that change. Assumes nothing.
-use mathlib.Core.Path.{_≡_, refl, sym, ap, _∙_}
+use mathlib.Core.Path.{_≡_, sym, ap, _∙_}
 use mathlib.Core.Bool.{true}
-use Prim.Native.Nat.{ℕ, zero, suc, _+_, _*_, _%_, _^_, _≤_, _<_}
+use Prim.Native.Nat.{ℕ, suc, _%_, _^_, _≤_, _<_}
 use native.Mathlib.Decide.{ℕ-discrete, decLe}
 use native.Mathlib.Nat.{mod-lt, mod-eq-of-lt}
 use native.Mathlib.Omega.{arith}
@@ -15,8 +15,8 @@ use Rattle.walk.specs.Marks.{withMark, withoutMark, lowest, deepest}
 use Rattle.walk.specs.Record.{noMarks, openedMask, remade, marked, openedAt, opened}
 use Rattle.field.proofs.Waiting.{wait, wait-marked-slot, wait-opened, wait-opened-slot, wait-level, wait-none, wait-lowest, deepest-mark, deepest-below}
 use Rattle.field.proofs.Levels.{no-mark, no-mark-deeper, opened-mask}
-use Rattle.field.proofs.Steady.{Steady}
-use Rattle.field.proofs.Ahead.{slotTail}
+use Rattle.field.proofs.Steady.{Steady, mask-tail}
+use Rattle.field.proofs.WaitSums.{slotTail}
 
 unfoldable pub Crowded : List ℕ → List ℕ → ℕ → Type 0
 Crowded us marks mask = (j s : ℕ) → wait marks j s ≡ 1 → isShared us (suc j) (slotTail j (mask % 16 ^ j) s) ≡ true
@@ -34,10 +34,10 @@ unfolding marked remade Crowded
 marked-crowded us w h steady old here j s waits = level (ℕ-discrete j (w .level))
   where
     inside : w .level < length (w .marks)
-    inside = let fits : w .level < 16 = steady .level-fits in rw (steady .marks-length) fits
+    inside = rw (steady .marks-length) (steady .accepted .level)
 
     slot : j ≡ w .level → Dec (s ≡ w .slot) → isShared us (suc j) (slotTail j (w .mask % 16 ^ j) s) ≡ true
-    slot e (yes f) = rw (e, f, mod-eq-of-lt (steady .mask-fits)) here
+    slot e (yes f) = rw (e, f, mod-eq-of-lt (mask-tail steady)) here
     slot e (no f) =
         let before : wait (w .marks) (w .level) s ≡ 1 =
         sym (wait-marked-slot (w .marks) (w .level) (w .slot) s inside f)

@@ -13,8 +13,10 @@ use Rattle.field.specs.Field.{Tag, answering}
 use Rattle.field.specs.Played.{Play, slotPlayed, playedFor, fresh}
 use Rattle.field.specs.Demand.{AllObey}
 use Rattle.walk.specs.Hear.{walkAfter}
+use Rattle.walk.proofs.Limits.{is-accepted-of-accepted}
+use Rattle.walk.proofs.Accepted.{ended-facts}
 use Rattle.field.proofs.Steady.{Steady}
-use Rattle.field.proofs.Accepted.{mask-below, walks-accepted, ended-accepted}
+use Rattle.field.proofs.Accepted.{walks-accepted}
 use Rattle.field.proofs.FixedField.{Fixed, start-fixed}
 use Rattle.field.proofs.Called.{called, slotOf}
 use Rattle.field.proofs.Steps.{Verdict, Kept, Next, moves, opens, stops, slot-next}
@@ -54,9 +56,8 @@ rest-of : (family : ℕ) (tags : List Tag) (us : List ℕ) (n : ℕ) (w x : Walk
     → Stage family tags us n q
 unfolding ended remade
 rest-of family tags us n w x q t e h g k same verdict row =
-    let inside : x .slot < 16 = rw (k .slot) h in
     rests
-    (subst (λ (y : Walk). isAccepted y ≡ true) (sym same) (ended-accepted x (q .list) t (suc e) inside (g .walks)))
+    (subst (λ (y : Walk). isAccepted y ≡ true) (sym same) (is-accepted-of-accepted (ended (suc e) x) (ended-facts x (g .walks .steady .accepted) (suc e))))
     (subst (λ (y : Walk). isRunning y ≡ false) (sym same) (ended-stops e x))
     verdict
     (subst (λ (y : Walk). Both (AtSlot family (y .level) (y .mask) (y .slot)) tags (q .tags)) (sym same) (row-kept family tags (q .tags) w x k row))
@@ -72,7 +73,7 @@ next-stage family tags us n w q obey steady h e f room count row (moves g s l m 
 next-stage family tags us n w q obey steady h e f room count row (opens g s t y z r) =
     hears (subst (λ (k : ℕ). Fixed us (q .walk) (q .list) k) (sym t) g) (omega (arith, t)) (z ∙ e) (y ∙ f) room (omega (arith, s, t, r, count))
     (rw t
-    (at-slot-follows family (w .level) (w .mask) (w .slot) tags (q .tags) obey (steady .level-fits) h (mask-below w (w .slot) steady) row))
+    (at-slot-follows family (w .level) (w .mask) (w .slot) tags (q .tags) obey (steady .accepted .level) h (steady .accepted .mask) row))
 next-stage family tags us n w q obey steady h e f room count row (stops {x} {t} g k d same verdict) =
     rest-of family tags us (suc n) w x q t d h g k same verdict row
 

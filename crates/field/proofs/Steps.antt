@@ -20,8 +20,9 @@ use Rattle.walk.specs.declared.Slot.the-variants.{Silent, Clashed, Clean}
 use Rattle.walk.specs.Marks.{deepest}
 use Rattle.walk.specs.Record.{places, mostRounds, running, complete, twins, full, remade, ended, counted, marked, atNextSlot, openedAt, opened}
 use Rattle.walk.specs.Hear.{endsAtOnce, noted, listNoted, turned, passed, walkAfter, listAfter}
-use Rattle.field.proofs.Steady.{Steady, open-not-last}
-use Rattle.field.proofs.Ahead.{slotTail, ahead, ahead-none, ahead-hear}
+use Rattle.field.proofs.Steady.{Steady}
+use Rattle.field.proofs.WaitSums.{slotTail}
+use Rattle.field.proofs.Ahead.{ahead, ahead-none, ahead-hear}
 use Rattle.field.proofs.Weights.{weigh, belowAt}
 use Rattle.field.proofs.AnyReplies.{alone}
 use Rattle.field.proofs.FixedField.{Fixed, slot-weight, note-fixed, next-fixed, open-fixed}
@@ -76,14 +77,14 @@ moves-after : (us : List ℕ) (w x : Walk) (list : List ℕ) → x .slot ≡ w .
     → x .ending ≡ w .ending → x .slot < 15 → Next us w (atNextSlot x) list
 unfolding atNextSlot remade
 moves-after us w x list s g k r e h =
-    moves (next-fixed us x list (suc (w .slot)) g) (rw (← s) h) (k .level) (k .mask) (add-one (x .slot) ∙ ap suc s) (k .family) e r
+    moves (next-fixed us x list (suc (w .slot)) h g) (rw (← s) h) (k .level) (k .mask) (add-one (x .slot) ∙ ap suc s) (k .family) e r
 
 -- the next round
 opens-after : (us : List ℕ) (w x : Walk) (list : List ℕ) → w .slot ≡ 15 → Fixed us x list 16 → Kept w x → x .rounds ≡ w .rounds
     → x .ending ≡ w .ending → (j : ℕ) → deepest (x .marks) ≡ suc j → x .rounds < 481 → Next us w (opened x j) list
 unfolding opened openedAt remade
 opens-after us w x list h g k r e j d f =
-    opens (open-fixed us x list j g d (open-not-last x j (g .walks .steady) d) f) h refl (k .family) e (add-one (x .rounds) ∙ ap suc r)
+    opens (open-fixed us x list j g d f) h refl (k .family) e (add-one (x .rounds) ∙ ap suc r)
 
 listed-few : (x : Walk) (list : List ℕ) → x .count ≤ 64 → length (take (x .count) list) ≤ 64
 listed-few x list h = rw (length-take (x .count) list) (omega arith)
@@ -94,7 +95,7 @@ unfolding ended remade
 completes-after us w x list g k d =
     let ls : List ℕ = take (x .count) list in
     let verdict : Verdict us (ended complete x) list =
-    completes refl (g .walks .count-fits)
+    completes refl (g .walks .steady .accepted .count)
     (λ v. let none = ahead-none (weigh v us) x d in omega (arith, none, g .weighed v))
     (λ u. let most : times u ls + ahead (alone u) x 16 ≤ 1 = g .walks .single u in omega arith)
     (let none = ahead-none (belowAt us) x d in omega (arith, none, g .tails)) in
@@ -107,7 +108,7 @@ unfolding turned mostRounds
 turns us w x list h g k r e zero d = completes-after us w x list g k d
 turns us w x list h g k r e (suc j) d =
     let few : x .rounds ≤ 479 =
-    rounds-below us (take (x .count) list) x (g .walks .steady) (listed-few x list (g .walks .count-fits)) (g .weighed) (g .tails) in
+    rounds-below us (take (x .count) list) x (g .walks .steady) (listed-few x list (g .walks .steady .accepted .count)) (g .weighed) (g .tails) in
     rw (lt-ltb (x .rounds) 481 (omega arith)) (opens-after us w x list h g k r e j d (omega arith))
 
 -- the slot ends nothing at once
@@ -133,7 +134,7 @@ fills-at us x w list h g c m =
     let heard = ahead-hear (weigh v us) w (w .slot) h in
     let weight : weigh v us (suc (w .level)) (slotTail (w .level) (w .mask) (w .slot)) ≡ 1 = slot-weight v us (x ∷ []) w c in
     let listed : tally v (take (w .count) list) ≡ w .count =
-    tally-one (take (w .count) list) ∙ length-take-le (w .count) list (let few = g .walks .count-fits in let many = g .walks .places-fit in omega (arith, few, many)) in
+    tally-one (take (w .count) list) ∙ length-take-le (w .count) list (let few = g .walks .steady .accepted .count in let many = g .walks .places-fit in omega (arith, few, many)) in
     let number : tally v us ≡ length us = tally-one us in
     stops g (kept w) 2 refl (fills refl (omega (arith, all, heard, weight, listed, number)))
 
@@ -143,7 +144,7 @@ twins-at : (us : List ℕ) (x y : ℕ) (xs : List ℕ) (w : Walk) (list : List �
 unfolding ended remade called
 twins-at us x y xs w list fits h g c m =
     let tail : ℕ = slotTail (w .level) (w .mask) (w .slot) in
-    let last : suc (w .level) ≡ 16 = let least = g .walks .steady .level-fits in omega (arith, least) in
+    let last : suc (w .level) ≡ 16 = let least = g .walks .steady .accepted .level in omega (arith, least) in
     let alike : times tail us ≡ length (ending 16 tail us) = ending-whole us tail fits in
     let two : length (ending 16 tail us) ≡ suc (suc (length xs)) =
     ap (λ (n : ℕ). length (ending n tail us)) (sym last) ∙ ap (λ (l : List ℕ). length l) c in

@@ -8,7 +8,8 @@ use Rattle.tails.specs.Sum.{tot, one, tally}
 use Rattle.tails.specs.Tails.{ending, isShared, sharedTails}
 use Rattle.tails.proofs.Parts.{ending-all, ending-parts}
 use Rattle.tails.proofs.Below.{below, below-all}
-use Rattle.field.proofs.Ahead.{slotTail, toHear}
+use Rattle.field.proofs.WaitSums.{slotTail}
+use Rattle.field.proofs.Ahead.{toHear}
 
 -- a weight v of the UIDs that end in m
 unfoldable pub weigh : (ℕ → ℕ) → List ℕ → ℕ → ℕ → ℕ

@@ -30,7 +30,7 @@ by-test true x y p q = p refl
 by-test false x y p q = q refl
 
 module _ (w : Walk) (a : Accepted w) where
-  ended-facts : (ending : ℕ) → Accepted (ended ending w)
+  pub ended-facts : (ending : ℕ) → Accepted (ended ending w)
   unfolding ended remade
   ended-facts ending =
       record {
@@ -74,7 +74,7 @@ module _ (w : Walk) (a : Accepted w) where
         last-level = omega (arith, own);
       }
 
-  next-slot-facts : w .slot < 15 → Accepted (atNextSlot w)
+  pub next-slot-facts : w .slot < 15 → Accepted (atNextSlot w)
   unfolding atNextSlot remade
   next-slot-facts h =
       record {
@@ -88,7 +88,7 @@ module _ (w : Walk) (a : Accepted w) where
         last-level = a .last-level;
       }
 
-  opened-facts : (j : ℕ) → deepest (w .marks) ≡ suc j → w .rounds < 481 → Accepted (opened w j)
+  pub opened-facts : (j : ℕ) → deepest (w .marks) ≡ suc j → w .rounds < 481 → Accepted (opened w j)
   unfolding opened openedAt remade
   opened-facts j is h =
       let s : ℕ = lowest (getD (w .marks) j 0) in
@@ -117,7 +117,7 @@ module _ (w : Walk) (a : Accepted w) where
       by-test (ltb (w .slot) 15) (atNextSlot w) (turned w (deepest (w .marks))) (λ e. next-slot-facts (ltb-true (w .slot) 15 e))
       (λ e. turned-facts (deepest (w .marks)) refl)
 
-  noted-facts : (slot : Slot) → endsAtOnce w slot ≡ 0 → Accepted (noted w slot)
+  pub noted-facts : (slot : Slot) → endsAtOnce w slot ≡ 0 → Accepted (noted w slot)
   unfolding noted
   noted-facts Silent e = a
   noted-facts Clashed e = marked-facts (clash-goes-on w {slot = Clashed} refl e)
