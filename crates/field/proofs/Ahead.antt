@@ -11,8 +11,9 @@ use Rattle.tails.proofs.Digits.{power-positive, tail-tail, above-tail}
 use Rattle.walk.specs.declared.Walk.{Walk}
 use Rattle.walk.specs.Marks.{levels, withMark, withoutMark, lowest, deepestOf, deepest}
 use Rattle.walk.specs.Record.{openedMask, remade, noMarks, started, counted, marked, atNextSlot, openedAt, opened}
+use Rattle.walk.proofs.Levels.{lowest-is-slot}
 use Rattle.field.proofs.Waiting.{wait, wait-marked, wait-marked-slot, wait-opened, wait-opened-slot, wait-level, wait-none, wait-lowest}
-use Rattle.field.proofs.Waiting.{deepest-none, deepest-below, deepest-mark, deepest-last, lowest-below}
+use Rattle.field.proofs.Waiting.{deepest-none, deepest-below, deepest-mark, deepest-last}
 use Rattle.field.proofs.Levels.{opened-mask}
 use Rattle.field.proofs.Steady.{Steady, mask-tail}
 use Rattle.field.proofs.WaitSums.{slotTail, waiting, waiting-none, waiting-more, waiting-mask}
@@ -78,7 +79,7 @@ ahead-opened f w j h g =
     let inside : j < length (w .marks) = rw (h .marks-length) fits in
     let levels : (i s : ℕ) → (i ≡ j → ⊥) → wait next i s ≡ wait (w .marks) i s = wait-level (w .marks) j (withoutMark (getD (w .marks) j 0) t) in
     let more : waiting f (w .marks) (w .mask) ≡ f (suc j) (slotTail j (w .mask % 16 ^ j) t) + waiting f next (w .mask) =
-    waiting-more f next (w .marks) (w .mask) j t fits (lowest-below (getD (w .marks) j 0)) (wait-opened (w .marks) j t inside)
+    waiting-more f next (w .marks) (w .mask) j t fits (lowest-is-slot (getD (w .marks) j 0)) (wait-opened (w .marks) j t inside)
     (wait-lowest (w .marks) j (h .marks-fit j) (deepest-mark (w .marks) j g))
     (λ s e. wait-opened-slot (w .marks) j t s inside e) levels in
     let low : (i : ℕ) → i ≤ j → slotTail j (w .mask % 16 ^ j) t % 16 ^ i ≡ w .mask % 16 ^ i =

@@ -1,9 +1,12 @@
 -- A power of two put to a number or taken from it changes that one bit.
 -- By halving: bit s + 1 of a number is bit s of its half. Assumes nothing.
 use mathlib.Core.Path.{_≡_, refl, sym, ap, _∙_}
-use Prim.Native.Nat.{ℕ, zero, suc, _+_, _-_, _/_, _%_, _^_, _≤_, _<_}
+use Prim.Native.Nat.{ℕ, zero, suc, _+_, _-_, _/_, _%_, _^_, _≤_}
 use native.Mathlib.Nat.{pow-succ', div-div-eq-div-mul}
 use native.Mathlib.Omega.{arith}
+use borrow.Author.Tests.{eq-eqb}
+use Rattle.walk.specs.Marks.{waits}
+use Rattle.walk.proofs.Levels.{mark-stands}
 
 abbrev pub bit : ℕ → ℕ → ℕ
 bit m s = m / 2 ^ s % 2
@@ -34,20 +37,7 @@ bit-added-other (suc t) (suc s) m h g =
     ∙ rw half (bit-added-other t s (m / 2) (sym (half-bit m t) ∙ h) (λ e. g (ap suc e)))
     ∙ sym (half-bit m s)
 
-pub added-fits : (n t m : ℕ) → m < 2 ^ n → t < n → bit m t ≡ 0 → m + 2 ^ t < 2 ^ n
-added-fits zero t m h g f = absurd (omega arith)
-added-fits (suc n) zero m h g f = omega arith
-added-fits (suc n) (suc t) m h g f =
-    let rest : m / 2 + 2 ^ t < 2 ^ n = added-fits n t (m / 2) (omega arith) (omega arith) (sym (half-bit m t) ∙ f) in
-    omega arith
-
 -- ---- a power less
-
-pub power-within : (t m : ℕ) → bit m t ≡ 1 → 2 ^ t ≤ m
-power-within zero m h = omega arith
-power-within (suc t) m h =
-    let rest : 2 ^ t ≤ m / 2 = power-within t (m / 2) (sym (half-bit m t) ∙ h) in
-    omega arith
 
 pub bit-taken : (t m : ℕ) → bit m t ≡ 1 → bit (m - 2 ^ t) t ≡ 0
 bit-taken zero m h = omega arith
@@ -56,12 +46,13 @@ bit-taken (suc t) m h =
     half-bit (m - 2 ^ suc t) t ∙ rw half (bit-taken t (m / 2) (sym (half-bit m t) ∙ h))
 
 pub bit-taken-other : (t s m : ℕ) → bit m t ≡ 1 → (s ≡ t → ⊥) → bit (m - 2 ^ t) s ≡ bit m s
+unfolding waits
 bit-taken-other zero zero m h g = absurd (g refl)
 bit-taken-other zero (suc s) m h g =
     let half : (m - 1) / 2 ≡ m / 2 = omega arith in
     half-bit (m - 1) s ∙ rw half (sym (half-bit m s))
 bit-taken-other (suc t) zero m h g =
-    let within : 2 ^ suc t ≤ m = power-within (suc t) m h in
+    let within : 2 ^ suc t ≤ m = mark-stands m (suc t) (eq-eqb (bit m (suc t)) 1 h) in
     omega arith
 bit-taken-other (suc t) (suc s) m h g =
     let half : (m - 2 ^ suc t) / 2 ≡ m / 2 - 2 ^ t = omega arith in

@@ -1,6 +1,6 @@
 -- The slot that a fixed field of UIDs brings to a walk.
 -- Definitions that the proofs of demand 3 share. Assumes nothing.
-use Prim.Native.Nat.{ℕ, zero, suc, _+_, _*_, _^_}
+use Prim.Native.Nat.{ℕ, suc, _+_, _*_, _^_}
 use mathlib.Core.List.{List, [], _∷_}
 use Rattle.tails.specs.Tails.{ending}
 use Rattle.walk.specs.declared.Walk.{Walk}

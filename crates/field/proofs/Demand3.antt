@@ -8,17 +8,16 @@ use mathlib.Core.List.{List, [], _∷_}
 use lib.Dec.{eqb}
 use lib.ListN.{length, take, getD, length-take}
 use Rattle.card.specs.declared.Card.{Card}
-use Rattle.tails.specs.Sum.{one, tally, times}
+use Rattle.tails.specs.Sum.{one, times}
 use Rattle.tails.specs.Tails.{sharedTails}
 use Rattle.tails.proofs.Tally.{tally-one}
 use Rattle.tails.proofs.Bounds.{shared-tails-half}
 use Rattle.walk.specs.declared.Walk.{Walk}
-use Rattle.walk.specs.Record.{complete, twins, full, isRunning}
+use Rattle.walk.specs.Record.{isRunning}
 use Rattle.field.specs.Field.{Tag, answers, answering}
 use Rattle.field.specs.Played.{Play, playedFor, fresh}
 use Rattle.field.specs.Demand.{Different, listed, AllObey, none, more, cardLeft, cardsLeft, cards, memories, lockBytes, Demand3, demand3}
-use Rattle.field.proofs.FixedField.{Fixed}
-use Rattle.field.proofs.Steps.{Verdict, completes, twin, fills}
+use Rattle.field.proofs.Next.{Verdict, completes, twin, fills}
 use Rattle.field.proofs.InTime.{AtSlot, Both, inStep}
 use Rattle.field.proofs.InTime as row
 use Rattle.field.proofs.Stages.{Stage, hears, rests, stage-fresh, stage-for}

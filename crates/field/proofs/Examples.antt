@@ -1,18 +1,18 @@
 -- 01's field of three, over any cards with these UIDs: complete, 2 rounds, listed 05, 11, 21. Worked out slot by slot over the UIDs.
 -- Assumes nothing.
-use mathlib.Core.Path.{_≡_, refl, sym, ap, _∙_}
+use mathlib.Core.Path.{_≡_, refl, ap, _∙_}
 use mathlib.Core.Bool.{false}
-use Prim.Native.Nat.{ℕ, zero, suc, _+_, _*_, _≤_}
+use Prim.Native.Nat.{ℕ, _+_, _*_, _≤_}
 use native.Mathlib.Omega.{arith}
 use mathlib.Core.List.{List, [], _∷_}
-use lib.ListN.{length, take, set}
+use lib.ListN.{length, take}
 use Rattle.tails.specs.Tails.{ending}
 use Rattle.walk.specs.declared.Walk.{Walk}
 use Rattle.walk.specs.Marks.{levels, waits, withMark, withoutMark, lowestFrom, lowest, deepestOf, deepest}
 use Rattle.walk.specs.Record.{places, mostRounds, maskLength, complete, isRunning, remade, ended, counted, marked, atNextSlot, openedMask, openedAt, opened, noMarks, started}
 use Rattle.walk.specs.Hear.{endsAtOnce, noted, listNoted, turned, passed, walkAfter, listAfter}
 use Rattle.field.specs.Field.{Tag, answering}
-use Rattle.field.specs.Played.{Play, playedFor, fresh}
+use Rattle.field.specs.Played.{playedFor, fresh}
 use Rattle.field.specs.Demand.{AllObey, listed}
 use Rattle.field.proofs.Called.{called, slotOf}
 use Rattle.field.proofs.Stages.{stage-fresh}

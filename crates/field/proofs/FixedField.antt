@@ -1,33 +1,28 @@
 -- A walk of a fixed field: what is listed and what is ahead is the field, and each round opened is a shared tail.
 -- By the weights of UIDs and of tails, which every slot keeps. Assumes nothing.
-use mathlib.Core.Path.{_≡_, refl, sym, ap, _∙_}
-use mathlib.Core.Bool.{Bool, true, false, cond}
-use Prim.Native.Nat.{ℕ, zero, suc, _+_, _*_, _%_, _^_, _≤_, _<_}
-use native.Mathlib.Nat.{zero-div}
+use mathlib.Core.Path.{_≡_, refl, ap, _∙_}
+use mathlib.Core.Bool.{Bool, true}
+use Prim.Native.Nat.{ℕ, suc, _+_, _≤_, _<_}
 use native.Mathlib.Omega.{arith}
-use mathlib.Core.List.{List, [], _∷_, nil≢cons}
-use borrow.Author.Tests.{eqb-true, le-leb}
-use lib.Dec.{leb, eqb}
-use lib.ListN.{length, take, getD}
+use mathlib.Core.List.{List, [], _∷_}
+use borrow.Author.Tests.{le-leb}
+use lib.ListN.{length, take}
 use Rattle.tails.specs.Sum.{one, tally}
-use Rattle.tails.specs.Tails.{ending, isShared, sharedTails}
-use Rattle.tails.proofs.Digits.{above-below}
-use Rattle.tails.proofs.Below.{below-none}
+use Rattle.tails.specs.Tails.{isShared, sharedTails}
 use Rattle.walk.specs.declared.Walk.{Walk}
-use Rattle.walk.specs.declared.Slot.{Slot}
 use Rattle.walk.specs.declared.Slot.the-variants.{Silent, Clashed, Clean}
 use Rattle.walk.specs.Marks.{deepest}
 use Rattle.walk.specs.Record.{remade, started, counted, marked, atNextSlot, openedAt, opened}
 use Rattle.walk.specs.Hear.{endsAtOnce, noted, listNoted}
-use Rattle.field.proofs.Waiting.{wait, wait-none}
 use Rattle.field.proofs.Levels.{opened-mask-below}
-use Rattle.field.proofs.Steady.{Steady, mask-tail}
+use Rattle.field.proofs.Steady.{Steady}
 use Rattle.field.proofs.WaitSums.{slotTail}
-use Rattle.field.proofs.Ahead.{toHear, ahead, ahead-start, ahead-hear, ahead-counted, ahead-next, ahead-marked, ahead-opened}
+use Rattle.field.proofs.Ahead.{ahead, ahead-start, ahead-hear, ahead-counted, ahead-next, ahead-marked, ahead-opened}
 use Rattle.field.proofs.Weights.{weigh, weigh-parts, weigh-start, belowAt, below-parts, below-start}
 use Rattle.field.proofs.Shared.{Crowded, start-crowded, marked-crowded, opened-shared, opened-crowded}
 use Rattle.field.proofs.AnyReplies.{Walks, Fits, listed-more, clean-room, start-walks, note-walks, next-walks, open-walks}
 use Rattle.field.proofs.Called.{called, slotOf}
+use Rattle.field.proofs.CalledWeights.{ending-head, slot-weight, slot-shared, slot-alone}
 
 -- us the UIDs of the field, about to hear slot t
 pub record Fixed (us : List ℕ) (w : Walk) (list : List ℕ) (t : ℕ) : Type 0 where
@@ -56,34 +51,6 @@ start-fixed us family list h =
   where
     start-weighed : (v : ℕ → ℕ) → tally v (take (started family .count) list) + ahead (weigh v us) (started family) 0 ≡ tally v us
     start-weighed v = weighed-none v (ahead-start (weigh v us) family ∙ weigh-start v us)
-
--- the first of those that end in m does
-ending-head : (j m x : ℕ) (us xs : List ℕ) → ending j m us ≡ x ∷ xs → x % 16 ^ j ≡ m
-unfolding ending
-ending-head j m x [] xs h = absurd (nil≢cons h)
-ending-head j m x (u ∷ us) xs h = go (eqb (u % 16 ^ j) m) refl h (λ g. ending-head j m x us xs g)
-  where
-    go : (b : Bool) → eqb (u % 16 ^ j) m ≡ b → cond b (u ∷ ending j m us) (ending j m us) ≡ x ∷ xs → (ending j m us ≡ x ∷ xs → x % 16 ^ j ≡ m)
-        → x % 16 ^ j ≡ m
-    go true e g later = ap (λ (y : ℕ). y % 16 ^ j) (sym (ap (λ (l : List ℕ). getD l 0 0) g)) ∙ eqb-true (u % 16 ^ j) m e
-    go false e g later = later g
-
--- what the slot weighs
-pub slot-weight : (v : ℕ → ℕ) (us xs : List ℕ) (w : Walk) → called us w ≡ xs → weigh v us (suc (w .level)) (slotTail (w .level) (w .mask) (w .slot)) ≡ tally v xs
-unfolding weigh called
-slot-weight v us xs w h = ap (λ (ys : List ℕ). tally v ys) h
-
-slot-shared : (us xs : List ℕ) (w : Walk) → called us w ≡ xs → isShared us (suc (w .level)) (slotTail (w .level) (w .mask) (w .slot)) ≡ leb 2 (length xs)
-unfolding isShared called
-slot-shared us xs w h = ap (λ (ys : List ℕ). leb 2 (length ys)) h
-
--- a slot with no clash has no shared tail
-slot-alone : (us xs : List ℕ) (w : Walk) → w .slot < 16 → Steady w (w .slot) → called us w ≡ xs → leb 2 (length xs) ≡ false
-    → belowAt us (suc (w .level)) (slotTail (w .level) (w .mask) (w .slot)) ≡ 0
-unfolding belowAt
-slot-alone us xs w h g e f =
-    below-none us _ (suc (w .level)) (slotTail (w .level) (w .mask) (w .slot)) (above-below (w .level) (w .mask) (w .slot) (mask-tail g) h)
-    (slot-shared us xs w e ∙ f)
 
 -- a slot that does not end the walk, by those it calls
 note-of : (us xs : List ℕ) (w : Walk) (list : List ℕ) → called us w ≡ xs → w .slot < 16 → Fixed us w list (w .slot) → endsAtOnce w (slotOf xs) ≡ 0

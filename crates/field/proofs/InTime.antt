@@ -1,6 +1,6 @@
 -- A card that hears the walk is where the walk is: what it becomes at each slot, as a function of the card as it stood at first.
 -- Definitions that the proofs of demand 3 share. Assumes nothing.
-use Prim.Native.Nat.{ℕ, zero, suc, _≤_}
+use Prim.Native.Nat.{ℕ, zero, suc}
 use mathlib.Core.Bool.{Bool, true, cond, _&&_}
 use mathlib.Core.List.{List, [], _∷_}
 use mathlib.Core.Path.{_≡_}

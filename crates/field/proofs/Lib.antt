@@ -12,7 +12,9 @@ pub mod AnyReplies
 pub mod Accepted
 pub mod Called
 pub mod Shared
+pub mod CalledWeights
 pub mod FixedField
+pub mod Next
 pub mod Steps
 pub mod Request
 pub mod Requested
@@ -29,6 +31,7 @@ pub mod WalkServed
 pub mod PlayedSlot
 pub mod Stages
 pub mod Stood
+pub mod AnyStages
 pub mod AnyWalk
 pub mod Demand3
 pub mod Examples

@@ -2,7 +2,7 @@
 -- By the request's two heads, and the tests of the card's steps 1 to 3. Assumes nothing.
 use mathlib.Core.Path.{_≡_, refl, ap, _∙_}
 use mathlib.Core.Bool.{Bool, true, false, cond, not, _&&_}
-use Prim.Native.Nat.{ℕ, _+_, _*_, _/_, _^_, _≤_, _<_}
+use Prim.Native.Nat.{ℕ, _+_, _^_, _≤_, _<_}
 use native.Mathlib.Omega.{arith}
 use mathlib.Core.List.{List, _∷_, _++_}
 use lib.ListN.{length}
@@ -12,7 +12,6 @@ use Rattle.crc.proofs.Seal.{length-sealed}
 use Rattle.frames.specs.Flags.{flagsOf}
 use Rattle.frames.specs.Field.{fieldBytes}
 use Rattle.frames.specs.Frame.{shortest, longest, isSound}
-use Rattle.frames.proofs.Fields.{length-field-bytes}
 use Rattle.frames.proofs.Sound.{sound-of-sealed}
 use Rattle.card.specs.declared.Card.{Card}
 use Rattle.card.specs.declared.Sequence.the-variants.{Running}
@@ -27,6 +26,7 @@ use Rattle.requests.specs.Frame.{leaving, decided}
 use Rattle.walk.specs.declared.Walk.{Walk}
 use Rattle.walk.specs.Record.{maskLength, hasFamily}
 use Rattle.walk.specs.Ask.{requestHead, requestBody, request}
+use Rattle.walk.proofs.Requests.{length-head-least, length-body, length-request-most}
 use Rattle.field.specs.Field.{listens, familyFits, answers}
 use Rattle.field.proofs.InTime.{inStep, calls}
 use Rattle.field.proofs.Request.{joined, family-parsed, none-parsed}
@@ -46,26 +46,12 @@ none-request w e = rw e
 
 -- ---- its length: 5 to 14 bytes
 
-body-length : (w : Walk) (b : Bool) → hasFamily w ≡ b → length (requestBody w) ≡ cond b 4 3 + (4 * w .level + 7) / 8
-unfolding requestBody requestHead maskBytes maskLength
-body-length w true e = rw e (omega (arith, length-field-bytes ((4 * w .level + 7) / 8) (w .mask)))
-body-length w false e = rw e (omega (arith, length-field-bytes ((4 * w .level + 7) / 8) (w .mask)))
-
 pub request-sound : (w : Walk) → w .level < 16 → isSound (request w) ≡ true
 unfolding request shortest longest
-request-sound w h = go (hasFamily w) refl
-  where
-    go : (b : Bool) → hasFamily w ≡ b → isSound (sealed (requestBody w)) ≡ true
-    go true e = sound-of-sealed (requestBody w) (omega (arith, body-length w true e)) (omega (arith, body-length w true e))
-    go false e = sound-of-sealed (requestBody w) (omega (arith, body-length w false e)) (omega (arith, body-length w false e))
-
-pub request-most : (w : Walk) → w .level < 16 → length (request w) ≤ 14
-unfolding request
-request-most w h = go (hasFamily w) refl
-  where
-    go : (b : Bool) → hasFamily w ≡ b → length (sealed (requestBody w)) ≤ 14
-    go true e = omega (arith, length-sealed (requestBody w), body-length w true e)
-    go false e = omega (arith, length-sealed (requestBody w), body-length w false e)
+request-sound w h =
+    let long : length (request w) ≡ length (requestBody w) + 2 = length-sealed (requestBody w) in
+    let most : length (request w) ≤ 14 = length-request-most w h in
+    sound-of-sealed (requestBody w) (omega (arith, length-body w, length-head-least w)) (omega arith)
 
 -- ---- what the card makes of it
 

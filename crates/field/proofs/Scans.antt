@@ -2,7 +2,7 @@
 -- By induction over the slots and the levels looked at. Assumes nothing.
 use mathlib.Core.Path.{_≡_, refl, sym, ap, _∙_}
 use mathlib.Core.Bool.{Bool, true, false, cond}
-use Prim.Native.Nat.{ℕ, zero, suc, _+_, _/_, _^_, _≤_, _<_}
+use Prim.Native.Nat.{ℕ, zero, suc, _/_, _^_, _≤_, _<_}
 use native.Mathlib.Decide.{ℕ-discrete}
 use native.Mathlib.Nat.{pow-suc, div-div-eq-div-mul}
 use native.Mathlib.Omega.{arith}
@@ -14,15 +14,6 @@ use Rattle.walk.specs.Marks.{waits, lowestFrom, deepestOf}
 use Rattle.field.proofs.Bits.{bit}
 
 -- ---- the lowest slot that waits, of the n + 1 from s on
-
-pub lowest-from-below : (m s n : ℕ) → lowestFrom m s n < suc (s + n)
-unfolding lowestFrom
-lowest-from-below m s zero = omega arith
-lowest-from-below m s (suc n) = go (waits m s) (lowest-from-below m (suc s) n)
-  where
-    go : (b : Bool) → lowestFrom m (suc s) n < suc (suc s + n) → cond b s (lowestFrom m (suc s) n) < suc (s + suc n)
-    go true rest = omega arith
-    go false rest = omega arith
 
 shift-half : (m s : ℕ) → m / 2 ^ suc s ≡ m / 2 ^ s / 2
 shift-half m s = ap (λ (p : ℕ). m / p) (pow-suc 2 s) ∙ sym (div-div-eq-div-mul m (2 ^ s) 2)
@@ -44,15 +35,6 @@ lowest-from-waits m s (suc n) h g = go (waits m s) refl (lowest-from-waits m (su
         rest (rw half (omega arith)) (λ z. g (omega (arith, half)))
 
 -- ---- the deepest of the first n levels with a mark
-
-pub deepest-of-below : (marks : List ℕ) (n : ℕ) → deepestOf marks n ≤ n
-unfolding deepestOf
-deepest-of-below marks zero = omega arith
-deepest-of-below marks (suc n) = go (eqb (getD marks n 0) 0) (deepest-of-below marks n)
-  where
-    go : (b : Bool) → deepestOf marks n ≤ n → cond b (deepestOf marks n) (suc n) ≤ suc n
-    go true rest = omega arith
-    go false rest = omega arith
 
 -- from the level that is found on there is no mark
 pub deepest-of-last : (marks : List ℕ) (n i : ℕ) → deepestOf marks n ≤ i → i < n → getD marks i 0 ≡ 0

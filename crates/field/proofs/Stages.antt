@@ -1,14 +1,14 @@
 -- A fresh walk over cards, slot by slot: it hears, and 16 × rounds + slot has grown by one a slot, or it has ended.
 -- By the slot that is played and the slot that the UIDs bring. Assumes nothing.
-use mathlib.Core.Path.{_≡_, refl, sym, ap, subst, _∙_}
-use mathlib.Core.Bool.{Bool, true, false}
+use mathlib.Core.Path.{_≡_, refl, sym, subst, _∙_}
+use mathlib.Core.Bool.{true, false}
 use Prim.Native.Nat.{ℕ, zero, suc, _+_, _*_, _^_, _≤_, _<_}
 use native.Mathlib.Omega.{arith}
-use mathlib.Core.List.{List, [], _∷_}
+use mathlib.Core.List.{List}
 use borrow.Author.Tests.{eq-eqb, ne-eqb}
 use lib.ListN.{length, getD}
 use Rattle.walk.specs.declared.Walk.{Walk}
-use Rattle.walk.specs.Record.{running, isRunning, isAccepted, started, ended, remade}
+use Rattle.walk.specs.Record.{isRunning, isAccepted, started, ended, remade}
 use Rattle.field.specs.Field.{Tag, answering}
 use Rattle.field.specs.Played.{Play, slotPlayed, playedFor, fresh}
 use Rattle.field.specs.Demand.{AllObey}
@@ -19,8 +19,9 @@ use Rattle.field.proofs.Steady.{Steady}
 use Rattle.field.proofs.Accepted.{walks-accepted}
 use Rattle.field.proofs.FixedField.{Fixed, start-fixed}
 use Rattle.field.proofs.Called.{called, slotOf}
-use Rattle.field.proofs.Steps.{Verdict, Kept, Next, moves, opens, stops, slot-next}
-use Rattle.field.proofs.InTime.{AtSlot, Follows, Both, Before}
+use Rattle.field.proofs.Next.{Verdict, Kept, Next, moves, opens, stops}
+use Rattle.field.proofs.Steps.{slot-next}
+use Rattle.field.proofs.InTime.{AtSlot, Both, Before}
 use Rattle.field.proofs.PlayedSlot.{SlotPlayed, slot-played, ended-played, at-slot-follows, follows-self}
 
 -- after n slots of a walk p over the cards tags, those that answer having the UIDs us

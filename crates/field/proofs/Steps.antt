@@ -2,75 +2,32 @@
 -- By the tests of hearing, one after the other. Assumes nothing.
 use mathlib.Core.Path.{_≡_, refl, sym, ap, subst, _∙_}
 use mathlib.Core.Bool.{Bool, true, false, cond}
-use Prim.Native.Nat.{ℕ, zero, suc, _+_, _*_, _%_, _^_, _≤_, _<_}
+use Prim.Native.Nat.{ℕ, zero, suc, _+_, _^_, _≤_, _<_}
 use native.Mathlib.Numerals.{add-one}
 use native.Mathlib.Omega.{arith}
 use mathlib.Core.List.{List, [], _∷_}
-use borrow.Author.Tests.{ltb-true, ltb-false, le-ltb, lt-ltb, eqb-true, eqb-false}
+use borrow.Author.Tests.{ltb-true, ltb-false, lt-ltb, eqb-true, eqb-false}
 use lib.Dec.{ltb, eqb}
 use lib.Seq.{length-take-le}
 use lib.ListN.{length, take, getD, length-take}
 use Rattle.tails.specs.Sum.{tally, times}
-use Rattle.tails.specs.Tails.{ending, sharedTails}
+use Rattle.tails.specs.Tails.{ending}
 use Rattle.tails.proofs.Tally.{tally-one}
 use Rattle.tails.proofs.Parts.{ending-whole}
 use Rattle.walk.specs.declared.Walk.{Walk}
 use Rattle.walk.specs.declared.Slot.{Slot}
-use Rattle.walk.specs.declared.Slot.the-variants.{Silent, Clashed, Clean}
 use Rattle.walk.specs.Marks.{deepest}
-use Rattle.walk.specs.Record.{places, mostRounds, running, complete, twins, full, remade, ended, counted, marked, atNextSlot, openedAt, opened}
+use Rattle.walk.specs.Record.{places, mostRounds, complete, twins, full, remade, ended, atNextSlot, openedAt, opened}
 use Rattle.walk.specs.Hear.{endsAtOnce, noted, listNoted, turned, passed, walkAfter, listAfter}
-use Rattle.field.proofs.Steady.{Steady}
 use Rattle.field.proofs.WaitSums.{slotTail}
 use Rattle.field.proofs.Ahead.{ahead, ahead-none, ahead-hear}
 use Rattle.field.proofs.Weights.{weigh, belowAt}
 use Rattle.field.proofs.AnyReplies.{alone}
-use Rattle.field.proofs.FixedField.{Fixed, slot-weight, note-fixed, next-fixed, open-fixed}
+use Rattle.field.proofs.FixedField.{Fixed, note-fixed, next-fixed, open-fixed}
 use Rattle.field.proofs.NoOverrun.{rounds-below}
 use Rattle.field.proofs.Called.{called, slotOf}
-
--- what an ended walk says of the UIDs us
-pub data Verdict (us : List ℕ) (w : Walk) (list : List ℕ) : Type 0 where
-  completes : w .ending ≡ complete → w .count ≤ 64 → ((v : ℕ → ℕ) → tally v (take (w .count) list) ≡ tally v us)
-      → ((u : ℕ) → times u (take (w .count) list) ≤ 1) → w .rounds ≡ 1 + sharedTails us → Verdict us w list
-  twin : w .ending ≡ twins → (u : ℕ) → 2 ≤ times u us → Verdict us w list
-  fills : w .ending ≡ full → 64 < length us → Verdict us w list
-
--- level, mask, slot and family stay
-pub record Kept (w w' : Walk) : Type 0 where
-  pub level : w' .level ≡ w .level
-  pub mask : w' .mask ≡ w .mask
-  pub slot : w' .slot ≡ w .slot
-  pub family : w' .family ≡ w .family
-
--- the walk w' that a slot leaves of w
-pub data Next (us : List ℕ) (w w' : Walk) (list' : List ℕ) : Type 0 where
-  moves : Fixed us w' list' (suc (w .slot)) → w .slot < 15 → w' .level ≡ w .level → w' .mask ≡ w .mask → w' .slot ≡ suc (w .slot)
-      → w' .family ≡ w .family → w' .ending ≡ w .ending → w' .rounds ≡ w .rounds → Next us w w' list'
-  opens : Fixed us w' list' 0 → w .slot ≡ 15 → w' .slot ≡ 0 → w' .family ≡ w .family → w' .ending ≡ w .ending → w' .rounds ≡ suc (w .rounds)
-      → Next us w w' list'
-  stops : {x : Walk} {t : ℕ} → Fixed us x list' t → Kept w x → (e : ℕ) → w' ≡ ended (suc e) x → Verdict us w' list' → Next us w w' list'
-
-kept : (w : Walk) → Kept w w
-kept w = record { level = refl; mask = refl; slot = refl; family = refl }
-
-pub noted-kept : (w : Walk) (slot : Slot) → Kept w (noted w slot)
-unfolding noted counted marked remade
-noted-kept w Silent = record { level = refl; mask = refl; slot = refl; family = refl }
-noted-kept w Clashed = record { level = refl; mask = refl; slot = refl; family = refl }
-noted-kept w (Clean u) = record { level = refl; mask = refl; slot = refl; family = refl }
-
-pub noted-rounds : (w : Walk) (slot : Slot) → noted w slot .rounds ≡ w .rounds
-unfolding noted counted marked remade
-noted-rounds w Silent = refl
-noted-rounds w Clashed = refl
-noted-rounds w (Clean u) = refl
-
-pub noted-ending : (w : Walk) (slot : Slot) → noted w slot .ending ≡ w .ending
-unfolding noted counted marked remade
-noted-ending w Silent = refl
-noted-ending w Clashed = refl
-noted-ending w (Clean u) = refl
+use Rattle.field.proofs.CalledWeights.{slot-weight}
+use Rattle.field.proofs.Next.{Verdict, completes, twin, fills, Kept, Next, moves, opens, stops, kept, noted-kept, noted-rounds, noted-ending}
 
 -- the next slot
 moves-after : (us : List ℕ) (w x : Walk) (list : List ℕ) → x .slot ≡ w .slot → Fixed us x list (suc (w .slot)) → Kept w x → x .rounds ≡ w .rounds

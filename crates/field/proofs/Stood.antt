@@ -1,7 +1,7 @@
 -- A walk over cards is the walk over the UIDs of those that answer: slot by slot, the list and the record, so that a field can be worked out.
 -- By the stages of the walk. Assumes nothing.
-use mathlib.Core.Path.{_≡_, refl, sym, ap, _∙_}
-use mathlib.Core.Bool.{Bool, true, false, cond}
+use mathlib.Core.Path.{_≡_, refl, ap, _∙_}
+use mathlib.Core.Bool.{false, cond}
 use Prim.Native.Nat.{ℕ, zero, suc, _+_, _^_, _<_}
 use native.Mathlib.Nat.{zero-add, suc-add}
 use mathlib.Core.List.{List}

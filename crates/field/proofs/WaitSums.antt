@@ -94,4 +94,3 @@ waiting-tot n t f marks mask =
     ∙ tot-swap 16 0 n t (term j) in
     tot-cong 16 0 (λ j. tot 16 0 (λ s. wait marks j s * tot n t (weight j s))) (λ j. tot n t (λ i. tot 16 0 (λ s. term j s i))) (λ j a b. inner j)
     ∙ tot-swap 16 0 n t (λ j i. tot 16 0 (λ s. term j s i))
-

@@ -12,8 +12,10 @@ use lib.ListN.{length, getD, set}
 use lib.Seq.{getD-set-same, getD-set-other}
 use Rattle.tails.specs.Sum.{one}
 use Rattle.walk.specs.Marks.{levels, waits, withMark, withoutMark, lowest, deepestOf, deepest}
-use Rattle.field.proofs.Bits.{bit, bit-added, bit-added-other, added-fits, bit-taken, bit-taken-other}
-use Rattle.field.proofs.Scans.{lowest-from-below, lowest-from-waits, deepest-of-below, deepest-of-last, deepest-of-mark}
+use Rattle.walk.proofs.Levels as walk
+use Rattle.walk.proofs.Levels.{deepest-of-most}
+use Rattle.field.proofs.Bits.{bit, bit-added, bit-added-other, bit-taken, bit-taken-other}
+use Rattle.field.proofs.Scans.{lowest-from-waits, deepest-of-last, deepest-of-mark}
 
 unfoldable pub wait : List ℕ → ℕ → ℕ → ℕ
 wait marks j s = one (waits (getD marks j 0) s)
@@ -92,7 +94,7 @@ mark-fits m t h g = go (waits m t) refl
   where
     go : (b : Bool) → waits m t ≡ b → cond b m (m + 2 ^ t) < 65536
     go true e = h
-    go false e = added-fits 16 t m h g (unset-bit m t e)
+    go false e = walk.mark-fits m t h g e
 
 pub unmark-fits : (m t : ℕ) → m < 65536 → withoutMark m t < 65536
 unfolding withoutMark
@@ -118,7 +120,7 @@ deepest-none marks h j s g = wait-none marks j s (deepest-of-last marks 16 j (om
 pub deepest-below : (marks : List ℕ) (j : ℕ) → deepest marks ≡ suc j → j < 16
 unfolding deepest levels
 deepest-below marks j h =
-    let most : deepestOf marks 16 ≤ 16 = deepest-of-below marks 16 in
+    let most : deepestOf marks 16 ≤ 16 = deepest-of-most marks 16 in
     omega arith
 
 pub deepest-mark : (marks : List ℕ) (j : ℕ) → deepest marks ≡ suc j → getD marks j 0 ≡ 0 → ⊥
@@ -128,11 +130,6 @@ deepest-mark marks j h e = deepest-of-mark marks 16 j h e
 pub deepest-last : (marks : List ℕ) (j : ℕ) → deepest marks ≡ suc j → (i : ℕ) → j < i → i < 16 → getD marks i 0 ≡ 0
 unfolding deepest levels
 deepest-last marks j h i g f = deepest-of-last marks 16 i (omega arith) f
-
--- the lowest slot that waits
-pub lowest-below : (m : ℕ) → lowest m < 16
-unfolding lowest
-lowest-below m = lowest-from-below m 0 15
 
 pub lowest-waits : (m : ℕ) → m < 65536 → (m ≡ 0 → ⊥) → waits m (lowest m) ≡ true
 unfolding lowest

@@ -19,8 +19,8 @@ use Rattle.walk.specs.Hear as hear
 use Rattle.walk.specs.Hear.{judged, walkAfter, listAfter, hearing}
 use Rattle.walk.specs.Ask as ask
 use Rattle.walk.specs.Ask.{sent, roomAsked, roomAfter, asking}
+use Rattle.walk.proofs.Requests.{length-request-most}
 use Rattle.field.specs.Field.{Tag, reached, tagAfter, tagsAfter}
-use Rattle.field.proofs.Requested.{request-most}
 
 pub walk-heard : (w : Walk) (kind : Kind) (bytes list : List ℕ) → isAccepted w ≡ true → isRunning w ≡ true → 64 ≤ length list
     → hearing w kind bytes list ≡ record { walk = walkAfter w (judged w kind bytes); list = listAfter w (judged w kind bytes) list; number = 0 }
@@ -32,7 +32,7 @@ pub room-left : (w : Walk) (s : Send) (room : List ℕ) → w .level < 16 → 14
 unfolding roomAfter
 room-left w Nothing room h g = refl
 room-left w Mark room h g = refl
-room-left w (Request n) room h g = length-over (ask.request w) room (omega (arith, request-most w h))
+room-left w (Request n) room h g = length-over (ask.request w) room (omega (arith, length-request-most w h))
 
 -- ---- after an ending
 

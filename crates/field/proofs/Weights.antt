@@ -1,14 +1,13 @@
 -- The weights that lie ahead of a walk: of the UIDs that end in a tail, and of the shared tails that do.
 -- Each is parted by the sixteen slots of a round. Assumes nothing.
-use mathlib.Core.Path.{_≡_, refl, sym, ap, _∙_}
-use Prim.Native.Nat.{ℕ, zero, suc, _+_, _-_, _*_, _^_, _≤_, _<_}
+use mathlib.Core.Path.{_≡_, refl, sym, _∙_}
+use Prim.Native.Nat.{ℕ, suc, _+_, _-_, _^_, _<_}
 use native.Mathlib.Omega.{arith}
-use mathlib.Core.List.{List, [], _∷_}
-use Rattle.tails.specs.Sum.{tot, one, tally}
+use mathlib.Core.List.{List}
+use Rattle.tails.specs.Sum.{one, tally}
 use Rattle.tails.specs.Tails.{ending, isShared, sharedTails}
 use Rattle.tails.proofs.Parts.{ending-all, ending-parts}
 use Rattle.tails.proofs.Below.{below, below-all}
-use Rattle.field.proofs.WaitSums.{slotTail}
 use Rattle.field.proofs.Ahead.{toHear}
 
 -- a weight v of the UIDs that end in m

@@ -2,7 +2,6 @@
 use Prim.Native.Nat.{ℕ, zero, suc}
 use mathlib.Core.List.{List}
 use Rattle.walk.specs.declared.Walk.{Walk}
-use Rattle.walk.specs.declared.Kind.{Kind}
 use Rattle.walk.specs.Record.{started}
 use Rattle.walk.specs.Hear.{Hearing, hearing}
 use Rattle.walk.specs.Ask.{Asking, asking}

@@ -6,16 +6,13 @@ use Prim.Native.Nat.{ℕ, suc, _-_, _≤_, _<_}
 use native.Mathlib.Omega.{arith}
 use borrow.Author.Tests.{lt-ltb, le-ltb, ltb-true, leb-true, ne-eqb}
 use lib.Dec.{leb, ltb, eqb}
-use lib.ListN.{length, getD}
+use lib.ListN.{length}
 use Rattle.walk.specs.declared.Walk.{Walk}
 use Rattle.walk.specs.declared.Kind.{Kind}
 use Rattle.walk.specs.declared.Slot.{Slot}
-use Rattle.walk.specs.declared.Slot.the-variants.{Silent, Clashed, Clean}
-use Rattle.walk.specs.Marks.{deepest, withMark}
-use Rattle.walk.specs.Record.{places, mostRounds, isRunning, isAccepted, remade, ended, counted, marked, opened}
+use Rattle.walk.specs.declared.Slot.the-variants.{Clashed, Clean}
+use Rattle.walk.specs.Record.{places, mostRounds, isRunning, isAccepted, ended, opened}
 use Rattle.walk.specs.Hear.{judged, endsAtOnce, noted, listNoted, turned, passed, walkAfter, listAfter, After, refusal, hearing, Hears}
-use Rattle.walk.proofs.Levels.{deepest-set}
-use Rattle.walk.proofs.Limits.{accepted-of-is-accepted}
 
 -- ---- a slot that ends nothing at once
 
@@ -34,16 +31,6 @@ clash-goes-on w is e = below-of-cond (w .level) 15 2 (λ h. omega arith) (sym (a
 pub clean-goes-on : (w : Walk) {slot : Slot} {uid : ℕ} → slot ≡ Clean uid → endsAtOnce w slot ≡ 0 → w .count < 64
 unfolding endsAtOnce places
 clean-goes-on w is e = below-of-cond (w .count) 64 3 (λ h. omega arith) (sym (ap (λ (s : Slot). endsAtOnce w s) is) ∙ e)
-
--- no mark at the last level then
-pub noted-deepest : (w : Walk) (slot : Slot) → isAccepted w ≡ true → endsAtOnce w slot ≡ 0 → deepest (noted w slot .marks) < 16
-unfolding noted counted marked remade
-noted-deepest w Silent h e = accepted-of-is-accepted w h .last-level
-noted-deepest w Clashed h e =
-    let level : w .level < 15 = clash-goes-on w {slot = Clashed} refl e in
-    let last : deepest (w .marks) < 16 = accepted-of-is-accepted w h .last-level in
-    omega (arith, deepest-set (w .marks) (w .level) (withMark (getD (w .marks) (w .level) 0) (w .slot)) 15 level (omega arith))
-noted-deepest w (Clean uid) h e = accepted-of-is-accepted w h .last-level
 
 -- ---- after slot 15
 

@@ -1,6 +1,6 @@
 -- A round's request put together at the start of a buffer: its head, its mask, its check; and its length.
 -- By the laws of `over` and `placed`. Assumes nothing.
-use mathlib.Core.Path.{_≡_, sym, ap, _∙_}
+use mathlib.Core.Path.{_≡_, refl, sym, ap, _∙_}
 use mathlib.Core.Bool.{Bool, true, false, cond}
 use mathlib.Core.List.{List, [], _∷_, _++_}
 use Prim.Native.Nat.{ℕ, _+_, _*_, _≤_, _<_}
@@ -59,13 +59,23 @@ puts-no-family w e h k =
 
 -- ---- lengths
 
-pub length-head-most : (w : Walk) → length (requestHead w) ≤ 3
+length-head : (w : Walk) → length (requestHead w) ≡ cond (hasFamily w) 3 2
 unfolding requestHead
-length-head-most w = go (hasFamily w)
+length-head w = go (hasFamily w)
   where
-    go : (t : Bool) → length (cond t (0x16 ∷ 0x01 ∷ w .family ∷ []) (0x06 ∷ 0x01 ∷ [])) ≤ 3
-    go true = omega arith
-    go false = omega arith
+    go : (t : Bool) → length (cond t (0x16 ∷ 0x01 ∷ w .family ∷ []) (0x06 ∷ 0x01 ∷ [])) ≡ cond t 3 2
+    go true = refl
+    go false = refl
+
+either-within : (t : Bool) → (2 ≤ cond t 3 2) × (cond t 3 2 ≤ 3)
+either-within true = (omega arith, omega arith)
+either-within false = (omega arith, omega arith)
+
+pub length-head-least : (w : Walk) → 2 ≤ length (requestHead w)
+length-head-least w = rw (length-head w) (either-within (hasFamily w) .0)
+
+pub length-head-most : (w : Walk) → length (requestHead w) ≤ 3
+length-head-most w = rw (length-head w) (either-within (hasFamily w) .1)
 
 pub mask-bytes-most : (level : ℕ) → level < 16 → maskBytes (4 * level) ≤ 8
 unfolding maskBytes
@@ -86,12 +96,10 @@ unfolding maskLength
 length-request-most w h = omega (arith, length-request w, length-head-most w, mask-bytes-most (w .level) h)
 
 pub length-with-family : (w : Walk) → hasFamily w ≡ true → length (request w) ≡ maskBytes (maskLength (w .level)) + 6
-unfolding requestHead
-length-with-family w h = length-request w ∙ rw h (omega arith)
+length-with-family w h = length-request w ∙ rw (length-head w, h) (omega arith)
 
 pub length-no-family : (w : Walk) → hasFamily w ≡ false → length (request w) ≡ maskBytes (maskLength (w .level)) + 5
-unfolding requestHead
-length-no-family w h = length-request w ∙ rw h (omega arith)
+length-no-family w h = length-request w ∙ rw (length-head w, h) (omega arith)
 
 -- ---- the whole request
 

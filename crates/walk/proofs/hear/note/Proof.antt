@@ -1,6 +1,5 @@
 -- `walk::hear::note` meets its contract, by the slot; what it asks for follows from a slot that ends nothing at once. Assumes nothing.
 use borrow.Author.Needs.{needs}
-use mathlib.Core.Path.{refl}
 use native.Mathlib.Omega.{arith}
 use Rattle.walk.specs.Hear.{noted, listNoted}
 use Rattle.walk.proofs.Limits.{accepted-of-is-accepted}

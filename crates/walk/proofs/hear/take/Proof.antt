@@ -2,7 +2,9 @@
 use borrow.Author.Needs.{needs}
 use mathlib.Core.Path.{sym, _∙_}
 use native.Mathlib.Omega.{arith}
-use Rattle.walk.proofs.HearWays.{noted-deepest, after-ending, after-passing}
+use Rattle.walk.proofs.HearWays.{after-ending, after-passing}
+use Rattle.walk.proofs.Limits.{accepted-of-is-accepted}
+use Rattle.walk.proofs.Accepted.{noted-facts}
 use Rattle.walk.proofs.hear.take.Statement.{statement}
 use Rattle.walk.proofs.hear.take.Tie as tie
 
@@ -22,7 +24,7 @@ pass-requires : tie.Need-pass-requires
 pass-requires c κs =
     let start = c .before .before .before .before .before .before .before in
     let goes-on = sym (c .before .before .before .before .before .ends-at-once .ensures) ∙ c .before .before .before .before .if1 .left in
-    rw (c .before .before .note .ensures .walk-left) (noted-deepest (start .args .walk) (start .args .slot) (start .pre .0) goes-on)
+    rw (c .before .before .note .ensures .walk-left) (noted-facts (start .args .walk) (accepted-of-is-accepted (start .args .walk) (start .pre .0)) (start .args .slot) goes-on .last-level)
 
 same-length : tie.Need-same-length
 same-length c = omega arith

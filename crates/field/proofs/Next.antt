@@ -1,0 +1,57 @@
+-- What a slot leaves of a walk of a fixed field: it moves on, opens a round, or stops with a verdict on the UIDs. Definitions that the steps
+-- and stages share, and what a slot that is noted keeps. Assumes nothing.
+use mathlib.Core.Path.{_≡_, refl}
+use Prim.Native.Nat.{ℕ, suc, _+_, _≤_, _<_}
+use mathlib.Core.List.{List}
+use lib.ListN.{length, take}
+use Rattle.tails.specs.Sum.{tally, times}
+use Rattle.tails.specs.Tails.{ending, sharedTails}
+use Rattle.walk.specs.declared.Walk.{Walk}
+use Rattle.walk.specs.declared.Slot.{Slot}
+use Rattle.walk.specs.declared.Slot.the-variants.{Silent, Clashed, Clean}
+use Rattle.walk.specs.Record.{complete, twins, full, remade, ended, counted, marked}
+use Rattle.walk.specs.Hear.{noted}
+use Rattle.field.proofs.FixedField.{Fixed}
+
+-- what an ended walk says of the UIDs us
+pub data Verdict (us : List ℕ) (w : Walk) (list : List ℕ) : Type 0 where
+  completes : w .ending ≡ complete → w .count ≤ 64 → ((v : ℕ → ℕ) → tally v (take (w .count) list) ≡ tally v us)
+      → ((u : ℕ) → times u (take (w .count) list) ≤ 1) → w .rounds ≡ 1 + sharedTails us → Verdict us w list
+  twin : w .ending ≡ twins → (u : ℕ) → 2 ≤ times u us → Verdict us w list
+  fills : w .ending ≡ full → 64 < length us → Verdict us w list
+
+-- level, mask, slot and family stay
+pub record Kept (w w' : Walk) : Type 0 where
+  pub level : w' .level ≡ w .level
+  pub mask : w' .mask ≡ w .mask
+  pub slot : w' .slot ≡ w .slot
+  pub family : w' .family ≡ w .family
+
+-- the walk w' that a slot leaves of w
+pub data Next (us : List ℕ) (w w' : Walk) (list' : List ℕ) : Type 0 where
+  moves : Fixed us w' list' (suc (w .slot)) → w .slot < 15 → w' .level ≡ w .level → w' .mask ≡ w .mask → w' .slot ≡ suc (w .slot)
+      → w' .family ≡ w .family → w' .ending ≡ w .ending → w' .rounds ≡ w .rounds → Next us w w' list'
+  opens : Fixed us w' list' 0 → w .slot ≡ 15 → w' .slot ≡ 0 → w' .family ≡ w .family → w' .ending ≡ w .ending → w' .rounds ≡ suc (w .rounds)
+      → Next us w w' list'
+  stops : {x : Walk} {t : ℕ} → Fixed us x list' t → Kept w x → (e : ℕ) → w' ≡ ended (suc e) x → Verdict us w' list' → Next us w w' list'
+
+pub kept : (w : Walk) → Kept w w
+kept w = record { level = refl; mask = refl; slot = refl; family = refl }
+
+pub noted-kept : (w : Walk) (slot : Slot) → Kept w (noted w slot)
+unfolding noted counted marked remade
+noted-kept w Silent = record { level = refl; mask = refl; slot = refl; family = refl }
+noted-kept w Clashed = record { level = refl; mask = refl; slot = refl; family = refl }
+noted-kept w (Clean u) = record { level = refl; mask = refl; slot = refl; family = refl }
+
+pub noted-rounds : (w : Walk) (slot : Slot) → noted w slot .rounds ≡ w .rounds
+unfolding noted counted marked remade
+noted-rounds w Silent = refl
+noted-rounds w Clashed = refl
+noted-rounds w (Clean u) = refl
+
+pub noted-ending : (w : Walk) (slot : Slot) → noted w slot .ending ≡ w .ending
+unfolding noted counted marked remade
+noted-ending w Silent = refl
+noted-ending w Clashed = refl
+noted-ending w (Clean u) = refl
