@@ -19,6 +19,10 @@ use Rattle.frames.specs.Field.{fieldAt, PutsField}
 use Rattle.frames.specs.Frame.{shortest, longest, isSound, Seals}
 use Rattle.frames.proofs.Sound.{Sound, sound-of-sealed, sealed-of-sound}
 use Rattle.frames.proofs.Unique.{flags-unique, byte-at-unique, field-unique, put-field-unique, seal-unique, is-sound-unique}
+use Rattle.hex.specs.Digits.{digitOf, digit, hasForm, numberAt}
+use Rattle.hex.specs.Rows.{isRow, rowBytes, rowText, ReadsRow, PutsRow}
+use Rattle.hex.proofs.RoundTrip.{row-of-bytes, bytes-of-row, row-of-its-bytes}
+use Rattle.hex.proofs.Unique.{digit-of-unique, digit-unique, has-form-unique, number-unique, is-row-unique, read-row-unique, put-row-unique}
 use Rattle.slots.specs.Fits.{maskBytes, fitsMask, fitsSlot}
 use Rattle.slots.proofs.Unique.{low-bits-unique, high-bits-unique, is-below-unique, mask-bytes-unique, fits-mask-unique, fits-slot-unique}
 use Rattle.tracks.specs.Track.{trackOf, slotMark}
@@ -206,6 +210,19 @@ the-start-is-drawn = pictured-of-start
 three-drawn : ThreeDrawn
 three-drawn = picture-of-three
 
+-- ---- Text
+
+-- The row of hexadecimal pairs for bytes is a row, and stands for them.
+a-row-is-put : (bytes : List ℕ) → isRow (rowText bytes) ≡ true
+a-row-is-put = row-of-bytes
+
+a-row-is-read : (bytes : List ℕ) → Bytes bytes → rowBytes (rowText bytes) ≡ bytes
+a-row-is-read = bytes-of-row
+
+-- No other row does.
+one-row : (row : List ℕ) → isRow row ≡ true → rowText (rowBytes row) ≡ row
+one-row = row-of-its-bytes
+
 -- ---- Every promise allows one result
 
 check-once : (bytes : List ℕ) (r s : ℕ) → r ≡ checkOf bytes → s ≡ checkOf bytes → r ≡ s
@@ -233,6 +250,29 @@ seal-once = seal-unique
 
 is-sound-once : (frame : List ℕ) (r s : Bool) → r ≡ isSound frame → s ≡ isSound frame → r ≡ s
 is-sound-once = is-sound-unique
+
+digit-of-once : (b r s : ℕ) → r ≡ digitOf b → s ≡ digitOf b → r ≡ s
+digit-of-once = digit-of-unique
+
+digit-once : (n r s : ℕ) → r ≡ digit n → s ≡ digit n → r ≡ s
+digit-once = digit-unique
+
+has-form-once : (text form : List ℕ) (r s : Bool) → r ≡ hasForm text form → s ≡ hasForm text form → r ≡ s
+has-form-once = has-form-unique
+
+number-once : (text : List ℕ) (at count r s : ℕ) → r ≡ numberAt text at count → s ≡ numberAt text at count → r ≡ s
+number-once = number-unique
+
+is-row-once : (text : List ℕ) (r s : Bool) → r ≡ isRow text → s ≡ isRow text → r ≡ s
+is-row-once = is-row-unique
+
+read-row-once : {text buffer : List ℕ} {r s : ℤ} {left right : List ℕ}
+    → ReadsRow text buffer r left → ReadsRow text buffer s right → (r ≡ s) × (left ≡ right)
+read-row-once = read-row-unique
+
+put-row-once : {bytes text : List ℕ} {at : ℕ} {r s : ℤ} {left right : List ℕ}
+    → PutsRow bytes text at r left → PutsRow bytes text at s right → (r ≡ s) × (left ≡ right)
+put-row-once = put-row-unique
 
 low-bits-once : (v n r s : ℕ) → r ≡ v % 2 ^ n → s ≡ v % 2 ^ n → r ≡ s
 low-bits-once = low-bits-unique

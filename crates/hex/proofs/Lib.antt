@@ -1,0 +1,4 @@
+pub mod Digits
+pub mod RoundTrip
+pub mod Rows
+pub mod Unique
