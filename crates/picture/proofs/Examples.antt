@@ -1,10 +1,9 @@
 -- 01's bench field, drawn: for the page's three lines the heading, two rounds and the page's printed text, byte for byte. The walk is worked out over
 -- the UIDs alone. Assumes nothing.
-use mathlib.Core.Path.{_≡_, refl, ap, subst, _∙_}
-use Prim.Native.Nat.{ℕ, _*_, _^_, _<_}
+use mathlib.Core.Path.{_≡_, refl, ap, _∙_}
+use Prim.Native.Nat.{ℕ, _*_}
 use native.Mathlib.Omega.{arith}
 use mathlib.Core.List.{List, [], _∷_, _++_, append-nil}
-use lib.ListN.{getD}
 use Rattle.tails.specs.Tails.{ending}
 use Rattle.walk.specs.Marks.{levels, waits, withMark, withoutMark, lowestFrom, lowest, deepestOf, deepest}
 use Rattle.walk.specs.Record as walk
@@ -17,11 +16,10 @@ use Rattle.row.specs.Row.{Played, noBytes}
 use Rattle.row.specs.Play.{noUids, mostSlots, ended}
 use Rattle.row.proofs.SlotsAlike.{benchOf}
 use Rattle.row.proofs.Meaning.{tagsOf, tags-obey, tags-answer, freshField, bench-is-a-field}
-use Rattle.rack.specs.Input.{linesFrom, lines, digitOf, allDigits, isUid, numberFrom, uidOf, badFrom, badLine, uidsOf, uids}
+use Rattle.lines.proofs.Examples.{threeLines, three-fit, three-read}
 use Rattle.rack.specs.Output.{digit, decimal, hexDigits}
 use Rattle.rack.specs.Bench.{printed}
-use Rattle.rack.proofs.InputMeaning.{input-uids-fit}
-use Rattle.rack.proofs.Examples.{threeLines, threePrinted, bench}
+use Rattle.rack.proofs.Examples.{threePrinted, bench}
 use Rattle.picture.specs.Drawn.{roundShown, tailShown, lineHead, heading, twinsLine, drawn, pictured}
 use Rattle.picture.specs.Meaning.{signFor}
 use Rattle.picture.proofs.OverUids.{signed, overUids, bench-drawn}
@@ -42,19 +40,6 @@ threeDrawn =
 three-over : heading ++ overUids three mostSlots (record { walk = started 256; list = noUids }) ≡ threeDrawn
 unfolding heading mostSlots overUids signed signFor lineHead roundShown tailShown decimal digit hexDigits stood isRunning started noMarks noUids walkAfter listAfter endsAtOnce noted listNoted passed turned walk.ended counted marked atNextSlot opened openedAt remade openedMask maskLength withMark withoutMark waits lowest lowestFrom deepest deepestOf levels places mostRounds called ending slotOf
 three-over = refl
-
--- ---- the lines of the input
-
-none-wrong : badLine threeLines ≡ 0
-unfolding badLine lines linesFrom badFrom isUid allDigits digitOf
-none-wrong = refl
-
-uids-three : uids threeLines ≡ three
-unfolding uids lines linesFrom uidsOf uidOf numberFrom digitOf
-uids-three = refl
-
-three-fit : (i : ℕ) → getD three i 0 < 2 ^ 64
-three-fit = subst (λ (us : List ℕ). (i : ℕ) → getD us i 0 < 2 ^ 64) uids-three (input-uids-fit threeLines none-wrong)
 
 -- ---- the end of the walk
 
@@ -79,4 +64,4 @@ three-drawn = rw (no-twins, append-nil, bench-drawn three three-fit mostSlots) t
 
 pub picture-of-three : ThreeDrawn
 unfolding pictured
-picture-of-three = record { draws = rw (none-wrong, uids-three, three-drawn, bench .prints) refl }
+picture-of-three = record { draws = rw (three-read .fine, three-read .same, three-drawn, bench .prints) refl }

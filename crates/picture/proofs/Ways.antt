@@ -10,11 +10,11 @@ use lib.ListN.{length, take, length-append}
 use lib.Seq.{take-append-seam, drop-append-add, drop-drop}
 use Rattle.lent.specs.Lent.{over, placed, refused}
 use Rattle.lent.specs.Puts.{Puts}
-use Rattle.rack.specs.declared.input.Lines.{Lines}
-use Rattle.rack.specs.Input.{uids}
-use Rattle.rack.specs.Lines.{freshLines, readFrom}
+use Rattle.lines.specs.declared.Lines.{Lines}
+use Rattle.lines.specs.Input.{uids}
+use Rattle.lines.specs.Lines.{freshLines, readFrom}
+use Rattle.lines.proofs.Reading.{reads-of-read}
 use Rattle.rack.specs.Bench.{printed, mostPrinted, benchAnswer, benchLeaves, Prints}
-use Rattle.rack.proofs.Reading.{Reads, reads-input}
 use Rattle.picture.specs.Drawn.{drawn, pictured, mostPictured, pictureAnswer, pictureLeaves, Pictures}
 
 pub pictures-short : (input room : List ℕ) → length room < 20503 → Pictures input room (refused 8) room
@@ -27,14 +27,11 @@ unfolding pictureAnswer pictureLeaves mostPictured
 pictures-all input room left r h n l =
     record { answer = rw (le-leb 20503 (length room) h) n; leaves = rw (le-leb 20503 (length room) h) l }
 
-reads : (input : List ℕ) (s : Lines) → s ≡ readFrom freshLines input → Reads input s
-reads input s e = subst (Reads input) (sym e) (reads-input input)
-
 pub pictures-wrong : (input room left : List ℕ) (s : Lines) (r : ℤ) → s ≡ readFrom freshLines input → (s .bad ≡ 0 → ⊥) → 20503 ≤ length room
     → Prints input room r left → Pictures input room r left
 unfolding benchAnswer benchLeaves mostPrinted pictured
 pictures-wrong input room left s r k bad h p =
-    let alone : printed input ≡ pictured input = rw (← (reads input s k .bad), ne-eqb (s .bad) 0 bad) refl in
+    let alone : printed input ≡ pictured input = rw (← (reads-of-read input s k .bad), ne-eqb (s .bad) 0 bad) refl in
     let room-fits = le-leb 1200 (length room) (omega arith) in
     pictures-all input room left r h (p .answer ∙ rw room-fits (ap (λ (l : List ℕ). pos (length l)) alone))
     (p .leaves ∙ rw room-fits (ap (λ (l : List ℕ). over l room) alone))
@@ -50,7 +47,7 @@ pub pictures-drawn : (input room e left : List ℕ) (s : Lines) (at : ℕ) (r : 
 unfolding pictured
 pictures-drawn input room e left s at r k fine h p n l =
     let us : List ℕ = take (s .count) (s .uids) in
-    let all : drawn us ++ printed input ≡ pictured input = rw (← (reads input s k .bad), eq-eqb (s .bad) 0 fine, ← (reads input s k .listed fine)) refl in
+    let all : drawn us ++ printed input ≡ pictured input = rw (← (reads-of-read input s k .bad), eq-eqb (s .bad) 0 fine, ← (reads-of-read input s k .listed fine)) refl in
     pictures-all input room left r h
     (n ∙ ap (λ (m : ℕ). pos (m + length (printed input))) (p .count) ∙ ap pos (sym (length-append (drawn us) (printed input)))
     ∙ ap (λ (x : List ℕ). pos (length x)) all)

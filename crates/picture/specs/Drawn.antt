@@ -13,7 +13,7 @@ use Rattle.row.specs.declared.Air.{Air}
 use Rattle.row.specs.declared.Desk.{Desk}
 use Rattle.row.specs.Row.{Played, stillAir, rowAir, slotPlayed, cardsOf}
 use Rattle.row.specs.Play.{freshDesk, mostSlots, ended}
-use Rattle.rack.specs.Input.{badLine, uids}
+use Rattle.lines.specs.Input.{badLine, uids}
 use Rattle.rack.specs.Output.{decimal, hexDigits}
 use Rattle.rack.specs.Bench.{printed}
 

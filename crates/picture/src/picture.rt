@@ -7,8 +7,8 @@ ghost use Rattle.lent.specs.Lent.{placed};
 ghost use Rattle.rack.specs.Bench.{printed};
 ghost use Rattle.picture.specs.Drawn.{Pictures};
 use crate::drawing::draw;
+use lines::read;
 use rack::bench::bench;
-use rack::input::read;
 
 // Room for all that can be drawn and printed, and for what is printed.
 const MOST_PICTURED: usize = 20503;

@@ -1,48 +1,21 @@
--- The ways out of the bench: room short, a wrong line, the report. No line past 101 is told. By what reading finds.
+-- The ways out of the bench: room short, a wrong line, the report. By what reading finds.
 -- Assumes nothing.
-use mathlib.Core.Path.{_≡_, refl, sym, ap, subst}
-use mathlib.Core.Bool.{Bool, true, false, cond, _&&_}
-use mathlib.Core.List.{List, [], _∷_}
-use Prim.Native.Nat.{ℕ, suc, _≤_, _<_}
+use mathlib.Core.Path.{_≡_, ap}
+use mathlib.Core.List.{List}
+use Prim.Native.Nat.{ℕ, _≤_, _<_}
 use native.Mathlib.Decide.{ℕ-discrete}
-use native.Mathlib.Omega.{arith}
-use borrow.Author.Tests.{leb-true, lt-leb, le-leb, eq-eqb, ne-eqb}
-use lib.Dec.{leb}
+use borrow.Author.Tests.{lt-leb, le-leb, eq-eqb, ne-eqb}
 use lib.IntN.{pos}
 use lib.ListN.{length, take}
 use Rattle.lent.specs.Lent.{refused}
 use Rattle.lent.specs.Puts.{Puts}
 use Rattle.row.specs.declared.Desk.{Desk}
 use Rattle.row.specs.Play.{ended}
-use Rattle.rack.specs.declared.input.Lines.{Lines}
-use Rattle.rack.specs.Input.{isUid, lines, badFrom, badLine}
-use Rattle.rack.specs.Lines.{freshLines, readFrom}
+use Rattle.lines.specs.declared.Lines.{Lines}
+use Rattle.lines.specs.Lines.{freshLines, readFrom}
+use Rattle.lines.proofs.Reading.{Reads, reads-of-read}
 use Rattle.rack.specs.Output.{report, complaint}
 use Rattle.rack.specs.Bench.{printed, answerTo, mostPrinted, benchAnswer, benchLeaves, Prints}
-use Rattle.rack.proofs.Reading.{Reads, reads-input}
-
--- ---- the number of a wrong line
-
-bad-most : (n : ℕ) (ls : List (List ℕ)) → n ≤ 101 → badFrom n ls ≤ 101
-unfolding badFrom
-bad-most n [] h = omega arith
-bad-most n (l ∷ ls) h = go (leb n 100) refl (isUid l) (λ k. bad-most (suc n) ls k)
-  where
-    go : (t : Bool) → leb n 100 ≡ t → (u : Bool) → (suc n ≤ 101 → badFrom (suc n) ls ≤ 101) → cond (t && u) (badFrom (suc n) ls) n ≤ 101
-    go true e true f =
-        let few : n ≤ 100 = leb-true n 100 e in
-        f (omega arith)
-    go true e false f = h
-    go false e u f = h
-
-reads : (input : List ℕ) (s : Lines) → s ≡ readFrom freshLines input → Reads input s
-reads input s e = subst (Reads input) (sym e) (reads-input input)
-
-pub bad-line-most : (input : List ℕ) (s : Lines) → s ≡ readFrom freshLines input → s .bad ≤ 101
-unfolding badLine
-bad-line-most input s e =
-    let is : s .bad ≡ badLine input = reads input s e .bad in
-    rw is (bad-most 1 (lines input) (omega arith))
 
 -- what is printed of the lines is what is printed of the input
 pub answer-printed : (input : List ℕ) (s : Lines) → s ≡ readFrom freshLines input → answerTo s ≡ printed input
@@ -50,7 +23,7 @@ unfolding answerTo printed
 answer-printed input s e = go (ℕ-discrete (s .bad) 0)
   where
     found : Reads input s
-    found = reads input s e
+    found = reads-of-read input s e
 
     go : Dec (s .bad ≡ 0) → answerTo s ≡ printed input
     go (yes fine) = rw (← (found .bad), eq-eqb (s .bad) 0 fine, found .listed fine)

@@ -1,10 +1,10 @@
 -- 01's bench field: what is printed for the page's three lines is the page's printed text, byte for byte, with and without the last 0A. The bench's
 -- walk is that of a field, which ends complete after 2 rounds, 05, 11 and 21 listed. Assumes nothing.
 use mathlib.Core.Path.{_≡_, refl, sym, ap, _∙_}
-use Prim.Native.Nat.{ℕ, zero, suc, _*_, _^_, _<_}
+use Prim.Native.Nat.{ℕ, _*_}
 use native.Mathlib.Omega.{arith}
 use mathlib.Core.List.{List, [], _∷_, _++_}
-use lib.ListN.{take, getD}
+use lib.ListN.{take}
 use Rattle.walk.specs.declared.Walk.{Walk}
 use Rattle.field.specs.Played.{Play}
 use Rattle.field.specs.Played as field
@@ -14,16 +14,9 @@ use Rattle.row.specs.Row.{Played, noBytes}
 use Rattle.row.specs.Play.{noUids, mostSlots, ended}
 use Rattle.row.proofs.SlotsAlike.{benchOf}
 use Rattle.row.proofs.Meaning.{tagsOf, tags-obey, tags-answer, freshField, bench-is-a-field}
-use Rattle.rack.specs.Input.{linesFrom, lines, digitOf, allDigits, isUid, numberFrom, uidOf, badFrom, badLine, uidsOf, uids}
+use Rattle.lines.proofs.Examples.{threeLines, ThreeRead, three-fit, three-read, three-read-ended}
 use Rattle.rack.specs.Output.{word, digit, decimal, hexDigits, uidLines, verdictLine, heading, report}
 use Rattle.rack.specs.Bench.{printed}
-
--- "E004010000000011, E004010000000021, E004010000000005", a line each, the last without 0A
-abbrev pub threeLines : List ℕ
-threeLines =
-    0x45 ∷ 0x30 ∷ 0x30 ∷ 0x34 ∷ 0x30 ∷ 0x31 ∷ 0x30 ∷ 0x30 ∷ 0x30 ∷ 0x30 ∷ 0x30 ∷ 0x30 ∷ 0x30 ∷ 0x30 ∷ 0x31 ∷ 0x31
-    ∷ 0x0a ∷ 0x45 ∷ 0x30 ∷ 0x30 ∷ 0x34 ∷ 0x30 ∷ 0x31 ∷ 0x30 ∷ 0x30 ∷ 0x30 ∷ 0x30 ∷ 0x30 ∷ 0x30 ∷ 0x30 ∷ 0x30 ∷ 0x32 ∷ 0x31
-    ∷ 0x0a ∷ 0x45 ∷ 0x30 ∷ 0x30 ∷ 0x34 ∷ 0x30 ∷ 0x31 ∷ 0x30 ∷ 0x30 ∷ 0x30 ∷ 0x30 ∷ 0x30 ∷ 0x30 ∷ 0x30 ∷ 0x30 ∷ 0x30 ∷ 0x35 ∷ []
 
 -- "it prints, whole": verdict complete, rounds 2, cards 3, and the three UIDs
 abbrev pub threePrinted : List ℕ
@@ -41,12 +34,6 @@ pub record Bench : Type 0 where
   pub prints-ended : printed (threeLines ++ 0x0a ∷ []) ≡ threePrinted
 
 -- ---- the report of the field's walk
-
-three-fit : (i : ℕ) → getD three i 0 < 2 ^ 64
-three-fit zero = omega arith
-three-fit (suc zero) = omega arith
-three-fit (suc (suc zero)) = omega arith
-three-fit (suc (suc (suc i))) = omega arith
 
 report-three : (list : List ℕ) → take 3 list ≡ 0xe004010000000005 ∷ 0xe004010000000011 ∷ 0xe004010000000021 ∷ []
     → report (record { walk = threeEnd 256; list = list }) ≡ threePrinted
@@ -71,31 +58,11 @@ report-ended : report (ended three) ≡ threePrinted
 unfolding ended mostSlots
 report-ended = ap (λ (q : Played). report (q .desk)) (bench-is-a-field three three-fit (16 * 481)) ∙ report-field
 
--- ---- the lines of the input
+-- ---- what is printed
 
-printed-three : (input : List ℕ) → badLine input ≡ 0 → uids input ≡ three → printed input ≡ threePrinted
+printed-three : (input : List ℕ) → ThreeRead input → printed input ≡ threePrinted
 unfolding printed
-printed-three input fine same = rw (fine, same) report-ended
-
-none-wrong : badLine threeLines ≡ 0
-unfolding badLine lines linesFrom badFrom isUid allDigits digitOf
-none-wrong = refl
-
-none-wrong-ended : badLine (threeLines ++ 0x0a ∷ []) ≡ 0
-unfolding badLine lines linesFrom badFrom isUid allDigits digitOf
-none-wrong-ended = refl
-
-uids-three : uids threeLines ≡ three
-unfolding uids lines linesFrom uidsOf uidOf numberFrom digitOf
-uids-three = refl
-
-uids-three-ended : uids (threeLines ++ 0x0a ∷ []) ≡ three
-unfolding uids lines linesFrom uidsOf uidOf numberFrom digitOf
-uids-three-ended = refl
+printed-three input read = rw (read .fine, read .same) report-ended
 
 pub bench : Bench
-bench =
-    record {
-      prints = printed-three threeLines none-wrong uids-three;
-      prints-ended = printed-three (threeLines ++ 0x0a ∷ []) none-wrong-ended uids-three-ended;
-    }
+bench = record { prints = printed-three threeLines three-read; prints-ended = printed-three (threeLines ++ 0x0a ∷ []) three-read-ended }

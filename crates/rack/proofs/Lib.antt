@@ -1,8 +1,3 @@
-mod LineWays
-mod WrongLines
-mod Begun
-mod LeftToRead
-pub mod Reading
 pub mod InputMeaning
 mod Putting
 mod Digits

@@ -1,14 +1,9 @@
--- Any two results that a promise of this crate allows are equal, in what is returned and in every byte of the room. Assumes nothing.
+-- Any two results that the promise of `bench` allows are equal, in what is returned and in every byte of the room. Assumes nothing.
 use mathlib.Core.Path.{_≡_, sym, _∙_}
 use mathlib.Core.List.{List}
 use Prim.Native.Nat.{ℕ}
 use lib.IntN.{ℤ}
-use Rattle.rack.specs.declared.input.Lines.{Lines}
-use Rattle.rack.specs.Lines.{freshLines, readFrom}
 use Rattle.rack.specs.Bench.{Prints}
-
-pub read-unique : (input : List ℕ) (r s : Lines) → r ≡ readFrom freshLines input → s ≡ readFrom freshLines input → r ≡ s
-read-unique input r s p q = p ∙ sym q
 
 pub prints-unique : (input room : List ℕ) (r s : ℤ) (left right : List ℕ) → Prints input room r left → Prints input room s right → (r ≡ s) × (left ≡ right)
 prints-unique input room r s left right p q = (p .answer ∙ sym (q .answer), p .leaves ∙ sym (q .leaves))

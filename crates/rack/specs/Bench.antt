@@ -8,8 +8,8 @@ use lib.IntN.{ℤ, pos}
 use lib.ListN.{length, take}
 use Rattle.lent.specs.Lent.{over, refused}
 use Rattle.row.specs.Play.{ended}
-use Rattle.rack.specs.declared.input.Lines.{Lines}
-use Rattle.rack.specs.Input.{badLine, uids}
+use Rattle.lines.specs.declared.Lines.{Lines}
+use Rattle.lines.specs.Input.{badLine, uids}
 use Rattle.rack.specs.Output.{report, complaint}
 
 unfoldable pub printed : List ℕ → List ℕ

@@ -1,4 +1,2 @@
-pub mod Input
-pub mod Lines
 pub mod Output
 pub mod Bench

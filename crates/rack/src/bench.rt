@@ -3,10 +3,10 @@ ghost use Prim.Native.Nat.{_<_, _≤_};
 ghost use lib.ListN.{length};
 ghost use Rattle.lent.specs.Puts.{Puts};
 ghost use Rattle.rack.specs.Bench.{answerTo, Prints};
-use crate::input::Lines;
-use crate::input::read;
 use crate::output::put_complaint;
 use crate::output::put_report;
+use lines::Lines;
+use lines::read;
 use row::play::play;
 
 // Room for all that can be printed.

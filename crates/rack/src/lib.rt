@@ -1,4 +1,3 @@
-// The bench: an input of UIDs read, a walk over their cards, and what is printed of it.
+// The bench: what is printed of a walk over the cards of an input.
 pub mod bench;
-pub mod input;
 mod output;

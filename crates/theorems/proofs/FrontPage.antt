@@ -83,16 +83,17 @@ use Rattle.row.specs.Meaning.{Meaning, meaning}
 use Rattle.row.proofs.Meaning.{bench-meets-demand3}
 use Rattle.row.proofs.Unique as row-unique
 use Rattle.row.proofs.Unique.{fresh-unique, deal-unique, listen-row-unique, slot-unique, goes-on-unique, play-unique}
-use Rattle.rack.specs.declared.input.Lines.{Lines}
-use Rattle.rack.specs.Input.{badLine, uids}
-use Rattle.rack.specs.Lines.{freshLines, readFrom}
+use Rattle.lines.specs.declared.Lines.{Lines}
+use Rattle.lines.specs.Input.{badLine, uids}
+use Rattle.lines.specs.Lines.{freshLines, readFrom}
+use Rattle.lines.proofs.Reading as reading
+use Rattle.lines.proofs.Reading.{reads-input}
+use Rattle.lines.proofs.Unique.{read-unique}
 use Rattle.rack.specs.Output.{report}
 use Rattle.rack.specs.Bench.{printed, Prints}
-use Rattle.rack.proofs.Reading as reading
-use Rattle.rack.proofs.Reading.{reads-input}
 use Rattle.rack.proofs.InputMeaning.{printed-meets-demand3}
 use Rattle.rack.proofs.Start.{printed-of-start}
-use Rattle.rack.proofs.Unique.{read-unique, prints-unique}
+use Rattle.rack.proofs.Unique.{prints-unique}
 use Rattle.rack.proofs.Examples.{Bench, bench}
 use Rattle.picture.specs.Drawn.{pictured, Pictures}
 use Rattle.picture.specs.Meaning.{signs}

@@ -3,7 +3,8 @@ use borrow.Author.Needs.{needs}
 use native.Mathlib.Omega.{arith}
 use mir.ValLaws.{toZ-pos}
 use mir.Syntax.{w64}
-use Rattle.rack.proofs.BenchWays.{bad-line-most, prints-short, prints-all}
+use Rattle.lines.proofs.Reading.{bad-of-read}
+use Rattle.rack.proofs.BenchWays.{prints-short, prints-all}
 use Rattle.rack.proofs.bench.bench.Statement.{statement}
 use Rattle.rack.proofs.bench.bench.Tie as tie
 
@@ -14,7 +15,7 @@ read-requires : tie.Need-read-requires
 read-requires c κs = search needs
 
 put-answer-requires : tie.Need-put-answer-requires
-put-answer-requires c κs = (omega (arith, bad-line-most _ _ (c .before .read .ensures)), omega arith)
+put-answer-requires c κs = (omega (arith, bad-of-read _ _ (c .before .read .ensures)), omega arith)
 
 cast-result : tie.Need-cast-result
 cast-result c = omega (arith, c .before .before .put-answer .ensures .1)
