@@ -11,8 +11,9 @@ use lib.Dec.{leb}
 use lib.ListN.{length, take, set, length-append, length-set}
 use lib.Pow.{shl-exact, pow-add}
 use lib.Seq.{take-suc-set}
+use Rattle.hex.specs.Digits.{digitOf}
 use Rattle.lines.specs.declared.Lines.{Lines}
-use Rattle.lines.specs.Input.{digitOf, allDigits, isUid, numberFrom, uidOf}
+use Rattle.lines.specs.Input.{allDigits, isUid, numberFrom, uidOf}
 use Rattle.lines.specs.Lines.{noLines, freshLines, listed, pushed}
 use Rattle.lines.proofs.WrongLines.{all-digits-append}
 

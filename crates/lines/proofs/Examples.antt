@@ -4,7 +4,8 @@ use Prim.Native.Nat.{ℕ, zero, suc, _^_, _<_}
 use native.Mathlib.Omega.{arith}
 use mathlib.Core.List.{List, [], _∷_, _++_}
 use lib.ListN.{getD}
-use Rattle.lines.specs.Input.{linesFrom, lines, digitOf, allDigits, isUid, numberFrom, uidOf, badFrom, badLine, uidsOf, uids}
+use Rattle.hex.specs.Digits.{digitOf}
+use Rattle.lines.specs.Input.{linesFrom, lines, allDigits, isUid, numberFrom, uidOf, badFrom, badLine, uidsOf, uids}
 
 -- "E004010000000011, E004010000000021, E004010000000005", a line each, the last without 0A
 abbrev pub threeLines : List ℕ

@@ -1,20 +1,20 @@
 -- What is left to read of an input, from a place on: a byte more, the end, a wrong line; and no more than 100 lines are counted.
 -- By the ways of the definitions. Assumes nothing.
 use mathlib.Core.Path.{_≡_, refl, sym, _∙_}
-use mathlib.Core.Bool.{Bool, true, false, cond, _&&_}
+use mathlib.Core.Bool.{Bool, true, false, cond, _&&_, and-eq-true-iff}
 use Prim.Native.Nat.{ℕ, zero, suc, _+_, _≤_, _<_}
 use native.Mathlib.Numerals.{add-one}
 use native.Mathlib.Decide.{decLt}
 use native.Mathlib.Omega.{arith}
 use mathlib.Core.List.{List, [], _∷_}
-use borrow.Author.Tests.{le-ltb, eq-eqb, ne-eqb}
+use borrow.Author.Tests.{ltb-true, ltb-false, eqb-true, eqb-false, le-ltb, eq-eqb, ne-eqb}
 use lib.Dec.{ltb, eqb}
 use lib.ListN.{length, drop, getD}
 use lib.Seq.{drop-cons, drop-nil}
+use Rattle.hex.specs.Digits.{digitOf}
 use Rattle.lines.specs.declared.Lines.{Lines}
-use Rattle.lines.specs.Input.{digitOf}
 use Rattle.lines.specs.Lines.{freshLines, wrong, listed, pushed, longer, lineEnded, stepped, closed, readFrom}
-use Rattle.lines.proofs.LineWays.{closed-wrong}
+use Rattle.lines.proofs.LineWays.{closed-shut}
 
 -- a wrong line stops the reading
 pub read-stopped : (s : Lines) (bs : List ℕ) → (s .bad ≡ 0 → ⊥) → readFrom s bs ≡ s
@@ -37,7 +37,7 @@ ended-closed s = by (ltb (s .count) 100 && eqb (s .digits) 16)
   where
     by : (t : Bool) → cond t (listed s) (wrong s) ≡ closed (cond t (listed s) (wrong s))
     by true = closed-listed s
-    by false = closed-wrong (wrong s) (wrong-bad s)
+    by false = closed-shut (wrong s) (rw (ne-eqb (wrong s .bad) 0 (wrong-bad s)))
 
 -- ---- from place i on
 
@@ -51,12 +51,29 @@ drop-past [] i h = drop-nil i
 drop-past (x ∷ l) zero h = absurd (omega arith)
 drop-past (x ∷ l) (suc i) h = drop-past l i (omega arith)
 
-pub end-left : (s : Lines) (input : List ℕ) (i : ℕ) → length input ≤ i → closed s ≡ readFrom s (drop i input)
+end-left : (s : Lines) (input : List ℕ) (i : ℕ) → length input ≤ i → closed s ≡ readFrom s (drop i input)
 unfolding readFrom
 end-left s input i h = rw (drop-past input i h)
 
-pub stopped-left : (s : Lines) (input : List ℕ) (i : ℕ) → (s .bad ≡ 0 → ⊥) → closed s ≡ readFrom s (drop i input)
-stopped-left s input i h = sym (closed-wrong s h) ∙ sym (read-stopped s (drop i input) h)
+-- there is a byte more, and no line was wrong
+abbrev pub goesOn : Lines → List ℕ → ℕ → Bool
+goesOn s input i = ltb i (length input) && eqb (s .bad) 0
+
+pub goes-on : (s : Lines) (input : List ℕ) (i : ℕ) → goesOn s input i ≡ true → (i < length input) × (s .bad ≡ 0)
+goes-on s input i on =
+    let both = and-eq-true-iff (ltb i (length input)) _ .0 on in
+    (ltb-true i (length input) (both .0), eqb-true (s .bad) 0 (both .1))
+
+-- else nothing is left
+pub none-left : (s : Lines) (input : List ℕ) (i : ℕ) → goesOn s input i ≡ false → closed s ≡ readFrom s (drop i input)
+none-left s input i = by (ltb i (length input)) refl (eqb (s .bad) 0) refl
+  where
+    by : (t : Bool) → ltb i (length input) ≡ t → (u : Bool) → eqb (s .bad) 0 ≡ u → (t && u) ≡ false → closed s ≡ readFrom s (drop i input)
+    by true e true f g = let never : _≡_ {A = ℕ} 0 1 = cc in absurd (omega arith)
+    by true e false f g =
+        let bad : s .bad ≡ 0 → ⊥ = eqb-false (s .bad) 0 f in
+        sym (closed-shut s (rw f)) ∙ sym (read-stopped s (drop i input) bad)
+    by false e u f g = end-left s input i (ltb-false i (length input) e)
 
 -- a line counted is one of 100
 pub count-fresh : freshLines .count ≤ 100

@@ -1,68 +1,48 @@
--- The ways out of the functions that read lines, by the tests of the definitions: a digit's value, a line that is longer or ends, and the end.
+-- The ways out of the functions that read lines, by the tests of the definitions: a line that ends or is longer, a byte, and the end.
 -- Assumes nothing.
-use mathlib.Core.Path.{_≡_}
-use Prim.Native.Nat.{ℕ, _+_, _-_, _≤_, _<_}
+use mathlib.Core.Path.{_≡_, refl, ap, _∙_}
+use mathlib.Core.Bool.{Bool, true, false, cond, not, _&&_, and-eq-true-iff}
+use Prim.Native.Nat.{ℕ, _<_}
 use native.Mathlib.Omega.{arith}
-use borrow.Author.Tests.{lt-ltb, le-ltb, le-leb, lt-leb, eq-eqb, ne-eqb}
+use borrow.Author.Tests.{ltb-true, eqb-true, eqb-false, not-true, eq-eqb, ne-eqb}
+use lib.Dec.{ltb, eqb}
+use Rattle.hex.specs.Digits.{digitOf}
 use Rattle.lines.specs.declared.Lines.{Lines}
-use Rattle.lines.specs.Input.{digitOf}
 use Rattle.lines.specs.Lines.{wrong, listed, pushed, longer, lineEnded, stepped, closed}
-
--- ---- a digit's value
-
-pub digit-low : (b : ℕ) → b < 0x30 → 16 ≡ digitOf b
-unfolding digitOf
-digit-low b h = rw (lt-leb 0x30 b h, lt-leb 0x41 b (omega arith))
-
-pub digit-0-9 : (b : ℕ) → 0x30 ≤ b → b ≤ 0x39 → b - 0x30 ≡ digitOf b
-unfolding digitOf
-digit-0-9 b h k = rw (le-leb 0x30 b h, le-leb b 0x39 k)
-
-pub digit-between : (b : ℕ) → 0x39 < b → b < 0x41 → 16 ≡ digitOf b
-unfolding digitOf
-digit-between b h k = rw (le-leb 0x30 b (omega arith), lt-leb b 0x39 h, lt-leb 0x41 b k)
-
-pub digit-A-F : (b : ℕ) → 0x41 ≤ b → b ≤ 0x46 → b - 0x41 + 10 ≡ digitOf b
-unfolding digitOf
-digit-A-F b h k = rw (le-leb 0x30 b (omega arith), lt-leb b 0x39 (omega arith), le-leb 0x41 b h, le-leb b 0x46 k) (omega arith)
-
-pub digit-high : (b : ℕ) → 0x46 < b → 16 ≡ digitOf b
-unfolding digitOf
-digit-high b h = rw (le-leb 0x30 b (omega arith), lt-leb b 0x39 (omega arith), le-leb 0x41 b (omega arith), lt-leb b 0x46 h)
-
--- ---- a byte more in the line
-
-pub longer-line-101 : (s : Lines) (b : ℕ) → s .count ≡ 100 → wrong s ≡ longer s b
-unfolding longer
-longer-line-101 s b h = rw (le-ltb (s .count) 100 (omega arith))
-
-pub longer-17th : (s : Lines) (b : ℕ) → s .count < 100 → 16 ≤ s .digits → wrong s ≡ longer s b
-unfolding longer
-longer-17th s b h k = rw (lt-ltb (s .count) 100 h, le-ltb (s .digits) 16 k)
-
-pub longer-no-digit : (s : Lines) (b d : ℕ) → d ≡ digitOf b → s .count < 100 → s .digits < 16 → 16 ≤ d → wrong s ≡ longer s b
-unfolding longer
-longer-no-digit s b d is h k l = rw (lt-ltb (s .count) 100 h, lt-ltb (s .digits) 16 k, ← is, le-ltb d 16 l)
-
-pub longer-digit : (s : Lines) (b d : ℕ) → d ≡ digitOf b → s .count < 100 → s .digits < 16 → d < 16 → pushed s d ≡ longer s b
-unfolding longer
-longer-digit s b d is h k l = rw (lt-ltb (s .count) 100 h, lt-ltb (s .digits) 16 k, ← is, lt-ltb d 16 l)
 
 -- ---- the line ends
 
-pub ended-line-101 : (s : Lines) → s .count ≡ 100 → wrong s ≡ lineEnded s
-unfolding lineEnded
-ended-line-101 s h = rw (le-ltb (s .count) 100 (omega arith))
+abbrev pub isWhole : Lines → Bool
+isWhole s = ltb (s .count) 100 && eqb (s .digits) 16
 
-pub ended-uid : (s : Lines) → s .count < 100 → s .digits ≡ 16 → listed s ≡ lineEnded s
+pub ended-uid : (s : Lines) → isWhole s ≡ true → listed s ≡ lineEnded s
 unfolding lineEnded
-ended-uid s h k = rw (lt-ltb (s .count) 100 h, eq-eqb (s .digits) 16 k)
+ended-uid s on = rw on
 
-pub ended-short : (s : Lines) → s .count < 100 → (s .digits ≡ 16 → ⊥) → wrong s ≡ lineEnded s
+pub ended-wrong : (s : Lines) → isWhole s ≡ false → wrong s ≡ lineEnded s
 unfolding lineEnded
-ended-short s h k = rw (lt-ltb (s .count) 100 h, ne-eqb (s .digits) 16 k)
+ended-wrong s off = rw off
 
--- ---- a byte, and the end
+-- ---- a byte more in the line
+
+-- no line 101, no 17th byte, and a digit
+abbrev pub fits : Lines → ℕ → Bool
+fits s d = ltb (s .count) 100 && (ltb (s .digits) 16 && ltb d 16)
+
+pub fits-digits : (s : Lines) (d : ℕ) → fits s d ≡ true → (s .digits < 16) × (d < 16)
+fits-digits s d on =
+    let both = and-eq-true-iff (ltb (s .digits) 16) (ltb d 16) .0 (and-eq-true-iff (ltb (s .count) 100) _ .0 on .1) in
+    (ltb-true (s .digits) 16 (both .0), ltb-true d 16 (both .1))
+
+pub longer-digit : (s : Lines) (b d : ℕ) → d ≡ digitOf b → fits s d ≡ true → pushed s d ≡ longer s b
+unfolding longer
+longer-digit s b d is on = rw (← is, on)
+
+pub longer-wrong : (s : Lines) (b d : ℕ) → d ≡ digitOf b → fits s d ≡ false → wrong s ≡ longer s b
+unfolding longer
+longer-wrong s b d is off = rw (← is, off)
+
+-- ---- a byte
 
 pub stepped-end : (s : Lines) (b : ℕ) → b ≡ 0x0a → lineEnded s ≡ stepped s b
 unfolding stepped
@@ -72,14 +52,51 @@ pub stepped-longer : (s : Lines) (b : ℕ) → (b ≡ 0x0a → ⊥) → longer s
 unfolding stepped
 stepped-longer s b h = rw (ne-eqb b 0x0a h)
 
-pub closed-wrong : (s : Lines) → (s .bad ≡ 0 → ⊥) → s ≡ closed s
-unfolding closed
-closed-wrong s h = rw (ne-eqb (s .bad) 0 h)
+-- a byte that ends a UID
+abbrev pub endsUid : Lines → ℕ → Bool
+endsUid s b = eqb b 0x0a && isWhole s
 
-pub closed-between : (s : Lines) → s .bad ≡ 0 → s .digits ≡ 0 → s ≡ closed s
-unfolding closed
-closed-between s h k = rw (eq-eqb (s .bad) 0 h, eq-eqb (s .digits) 0 k)
+pub uid-count : (s : Lines) (b : ℕ) → endsUid s b ≡ true → s .count < 100
+uid-count s b on =
+    let whole = and-eq-true-iff (eqb b 0x0a) (isWhole s) .0 on .1 in
+    ltb-true (s .count) 100 (and-eq-true-iff (ltb (s .count) 100) _ .0 whole .0)
 
-pub closed-line : (s : Lines) → s .bad ≡ 0 → (s .digits ≡ 0 → ⊥) → lineEnded s ≡ closed s
+pub stepped-uid : (s : Lines) (b : ℕ) → endsUid s b ≡ true → listed s ≡ stepped s b
+stepped-uid s b on =
+    let both = and-eq-true-iff (eqb b 0x0a) (isWhole s) .0 on in
+    ended-uid s (both .1) ∙ stepped-end s b (eqb-true b 0x0a (both .0))
+
+-- the byte 0A is no digit
+pub stepped-digit : (s : Lines) (b d : ℕ) → d ≡ digitOf b → fits s d ≡ true → pushed s d ≡ stepped s b
+unfolding digitOf
+stepped-digit s b d is on =
+    let digit = fits-digits s d on .1 in
+    longer-digit s b d is on ∙ stepped-longer s b (λ e. let none : d ≡ 16 = is ∙ ap digitOf e in absurd (omega (arith, digit, none)))
+
+pub stepped-wrong : (s : Lines) (b d : ℕ) → d ≡ digitOf b → endsUid s b ≡ false → fits s d ≡ false → wrong s ≡ stepped s b
+stepped-wrong s b d is off none = by (eqb b 0x0a) refl off
+  where
+    by : (t : Bool) → eqb b 0x0a ≡ t → (t && isWhole s) ≡ false → wrong s ≡ stepped s b
+    by true e f = ended-wrong s f ∙ stepped-end s b (eqb-true b 0x0a e)
+    by false e f = longer-wrong s b d is none ∙ stepped-longer s b (eqb-false b 0x0a e)
+
+-- ---- the end
+
+abbrev pub isOpen : Lines → Bool
+isOpen s = eqb (s .bad) 0 && not (eqb (s .digits) 0)
+
+pub closed-open : (s : Lines) → isOpen s ≡ true → stepped s 0x0a ≡ closed s
+unfolding stepped closed
+closed-open s on =
+    let both = and-eq-true-iff (eqb (s .bad) 0) _ .0 on in
+    let begun : eqb (s .digits) 0 ≡ false = not-true (eqb (s .digits) 0) (both .1) in
+    rw (both .0, begun)
+
+pub closed-shut : (s : Lines) → isOpen s ≡ false → s ≡ closed s
 unfolding closed
-closed-line s h k = rw (eq-eqb (s .bad) 0 h, ne-eqb (s .digits) 0 k)
+closed-shut s off = by (eqb (s .bad) 0) (eqb (s .digits) 0) off
+  where
+    by : (t u : Bool) → (t && not u) ≡ false → s ≡ cond t (cond u s (lineEnded s)) s
+    by true true e = refl
+    by true false e = let never : _≡_ {A = ℕ} 0 1 = cc in absurd (omega arith)
+    by false u e = refl

@@ -1,20 +1,20 @@
 -- Reading byte by byte finds the first wrong line and the UIDs of an input. By induction over what is left of it, after a line that has begun.
 -- Assumes nothing.
 use mathlib.Core.Path.{_≡_, refl, sym, subst, _∙_}
-use mathlib.Core.Bool.{false, cond}
+use mathlib.Core.Bool.{true, false, cond}
 use Prim.Native.Nat.{ℕ, _+_, _≤_, _<_}
 use native.Mathlib.Numerals.{add-one}
 use native.Mathlib.Decide.{ℕ-discrete, decLt}
 use native.Mathlib.Omega.{arith}
 use mathlib.Core.List.{List, [], _∷_, _++_, append-assoc, append-nil}
-use borrow.Author.Tests.{lt-leb, eq-eqb, ne-eqb}
+use borrow.Author.Tests.{lt-ltb, le-ltb, lt-leb, eq-eqb, ne-eqb}
 use lib.Dec.{eqb}
 use lib.ListN.{length, take, length-append}
+use Rattle.hex.specs.Digits.{digitOf}
 use Rattle.lines.specs.declared.Lines.{Lines}
-use Rattle.lines.specs.Input.{linesFrom, lines, digitOf, badFrom, badLine, uidsOf, uids}
+use Rattle.lines.specs.Input.{linesFrom, lines, badFrom, badLine, uidsOf, uids}
 use Rattle.lines.specs.Lines.{freshLines, wrong, listed, pushed, longer, lineEnded, stepped, closed, readFrom}
-use Rattle.lines.proofs.LineWays.{longer-line-101, longer-17th, longer-no-digit, longer-digit, ended-line-101, ended-uid, ended-short}
-use Rattle.lines.proofs.LineWays.{stepped-end, stepped-longer, closed-between, closed-line}
+use Rattle.lines.proofs.LineWays.{longer-wrong, longer-digit, ended-wrong, ended-uid, stepped-end, stepped-longer, isOpen, closed-open, closed-shut}
 use Rattle.lines.proofs.WrongLines.{isGood, bad-line-dead, dead-101, dead-17, dead-digit, short-line, bad-line-most}
 use Rattle.lines.proofs.Begun.{Reading, reading-fresh, reading-listed, reading-pushed, list-more, good-line}
 use Rattle.lines.proofs.LeftToRead.{read-stopped, wrong-bad, ended-closed}
@@ -42,18 +42,18 @@ found-ended s line bs k f = go (decLt (s .count) 100) (ℕ-discrete (length line
     go : Dec (s .count < 100) → Dec (length line ≡ 16) → Found s (line ∷ linesFrom [] bs) (readFrom (lineEnded s) bs)
     go (yes h) (yes l) =
         let g = f h in
-        let is : lineEnded s ≡ listed s = sym (ended-uid s h (k .digits ∙ l)) in
+        let is : lineEnded s ≡ listed s = sym (ended-uid s (rw (lt-ltb (s .count) 100 h, eq-eqb (s .digits) 16 (k .digits ∙ l)))) in
         record {
           bad = rw (is, good-line s line k h l, ← (add-one (s .count + 1))) (g .bad);
           count = rw is (g .count);
           listed = rw is (λ e. g .listed e ∙ rw (list-more s line k h, append-assoc));
         }
     go (yes h) (no l) =
-        let is : lineEnded s ≡ wrong s = sym (ended-short s h (λ e. l (sym (k .digits) ∙ e))) in
+        let is : lineEnded s ≡ wrong s = sym (ended-wrong s (rw (lt-ltb (s .count) 100 h, ne-eqb (s .digits) 16 (λ e. l (sym (k .digits) ∙ e))))) in
         rw is (found-wrong s (line ∷ linesFrom [] bs) bs (k .count) (rw (short-line (s .count + 1) line l)))
     go (no h) l =
         let at : s .count ≡ 100 = omega (arith, k .count) in
-        let is : lineEnded s ≡ wrong s = sym (ended-line-101 s at) in
+        let is : lineEnded s ≡ wrong s = sym (ended-wrong s (rw (le-ltb (s .count) 100 (omega arith)))) in
         rw is (found-wrong s (line ∷ linesFrom [] bs) bs (k .count) (rw (lt-leb (s .count + 1) 100 (omega arith))))
 
 found-pushed : (s : Lines) (d : ℕ) (ls : List (List ℕ)) (r : Lines) → Found (pushed s d) ls r → Found s ls r
@@ -75,21 +75,21 @@ found-longer s line b bs k f = go (decLt (s .count) 100) (decLt (s .digits) 16) 
         (bad-line-dead (s .count + 1) (line ++ b ∷ []) bs (λ (z : length (line ++ b ∷ []) ≡ 0). absurd (omega (arith, more))) e)
 
     go : Dec (s .count < 100) → Dec (s .digits < 16) → Dec (digitOf b < 16) → Found s (linesFrom (line ++ b ∷ []) bs) (readFrom (longer s b) bs)
-    go (yes h) (yes l) (yes d) = rw (← (longer-digit s b (digitOf b) refl h l d)) (found-pushed s (digitOf b) _ _ (f l d))
+    go (yes h) (yes l) (yes d) = rw (← (longer-digit s b (digitOf b) refl (rw (lt-ltb (s .count) 100 h, lt-ltb (s .digits) 16 l, lt-ltb (digitOf b) 16 d)))) (found-pushed s (digitOf b) _ _ (f l d))
     go (yes h) (yes l) (no d) =
-        rw (← (longer-no-digit s b (digitOf b) refl h l (omega arith))) (dead (λ rest. dead-digit (s .count + 1) b line rest (omega arith)))
+        rw (← (longer-wrong s b (digitOf b) refl (rw (lt-ltb (s .count) 100 h, lt-ltb (s .digits) 16 l, le-ltb (digitOf b) 16 (omega arith))))) (dead (λ rest. dead-digit (s .count + 1) b line rest (omega arith)))
     go (yes h) (no l) d =
-        rw (← (longer-17th s b h (omega arith)))
+        rw (← (longer-wrong s b (digitOf b) refl (rw (lt-ltb (s .count) 100 h, le-ltb (s .digits) 16 (omega arith)))))
         (dead (λ rest. dead-17 (s .count + 1) (line ++ b ∷ []) rest (omega (arith, more, k .digits))))
     go (no h) l d =
         let at : s .count ≡ 100 = omega (arith, k .count) in
-        rw (← (longer-line-101 s b at)) (dead (λ rest. dead-101 (s .count + 1) ((line ++ b ∷ []) ++ rest) (omega arith)))
+        rw (← (longer-wrong s b (digitOf b) refl (rw (le-ltb (s .count) 100 (omega arith))))) (dead (λ rest. dead-101 (s .count + 1) ((line ++ b ∷ []) ++ rest) (omega arith)))
 
 -- the end of the input
 found-between : (s : Lines) (line : List ℕ) → Reading s line → length line ≡ 0 → Found s [] (closed s)
 unfolding badFrom uidsOf
 found-between s line k e =
-    rw (← (closed-between s (k .fine) (k .digits ∙ e)))
+    rw (← (closed-shut s (rw (eq-eqb (s .bad) 0 (k .fine), eq-eqb (s .digits) 0 (k .digits ∙ e)))))
     (record { bad = k .fine; count = k .count; listed = λ q. sym (append-nil (take (s .count) (s .uids))) })
 
 found-closed : (s : Lines) (line : List ℕ) → Reading s line → Found s (linesFrom line []) (closed s)
@@ -99,7 +99,9 @@ found-closed s line k = go (ℕ-discrete (length line) 0)
     go : Dec (length line ≡ 0) → Found s (cond (eqb (length line) 0) [] (line ∷ [])) (closed s)
     go (yes e) = rw (eq-eqb (length line) 0 e) (found-between s line k e)
     go (no e) =
-        let last : closed s ≡ closed (lineEnded s) = sym (closed-line s (k .fine) (λ z. e (sym (k .digits) ∙ z))) ∙ ended-closed s in
+        let begun : s .digits ≡ 0 → ⊥ = λ z. e (sym (k .digits) ∙ z) in
+        let begins : isOpen s ≡ true = rw (eq-eqb (s .bad) 0 (k .fine), ne-eqb (s .digits) 0 begun) in
+        let last : closed s ≡ closed (lineEnded s) = sym (closed-open s begins) ∙ sym (stepped-end s 0x0a refl) ∙ ended-closed s in
         rw (ne-eqb (length line) 0 e, last)
         (found-ended s line [] k (λ h. found-between (listed s) [] (reading-listed s line k h) refl))
 

@@ -9,7 +9,8 @@ use mathlib.Core.List.{List, [], _∷_}
 use borrow.Author.Tests.{eqb-true, ltb-true}
 use lib.Dec.{leb, ltb, eqb}
 use lib.ListN.{length, getD}
-use Rattle.lines.specs.Input.{lines, digitOf, allDigits, isUid, numberFrom, uidOf, badFrom, badLine, uidsOf, uids}
+use Rattle.hex.specs.Digits.{digitOf}
+use Rattle.lines.specs.Input.{lines, allDigits, isUid, numberFrom, uidOf, badFrom, badLine, uidsOf, uids}
 
 -- a digit more is a power more
 number-fits : (k n : ℕ) (line : List ℕ) → n < 16 ^ k → allDigits line ≡ true → numberFrom n line < 16 ^ (k + length line)

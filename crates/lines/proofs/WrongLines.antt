@@ -8,7 +8,8 @@ use mathlib.Core.List.{List, [], _∷_, _++_, append-assoc, append-nil}
 use borrow.Author.Tests.{leb-true, le-ltb, lt-leb, ne-eqb}
 use lib.Dec.{leb, ltb, eqb}
 use lib.ListN.{length, length-append}
-use Rattle.lines.specs.Input.{linesFrom, lines, digitOf, allDigits, isUid, badFrom, badLine}
+use Rattle.hex.specs.Digits.{digitOf}
+use Rattle.lines.specs.Input.{linesFrom, lines, allDigits, isUid, badFrom, badLine}
 
 pub all-digits-append : (xs ys : List ℕ) → allDigits (xs ++ ys) ≡ (allDigits xs && allDigits ys)
 unfolding allDigits

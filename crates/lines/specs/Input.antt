@@ -1,9 +1,10 @@
 -- 01, Bench: "Standard input has one UID a line, 16 upper-case hex digits".
-use Prim.Native.Nat.{ℕ, suc, _+_, _-_, _*_}
+use Prim.Native.Nat.{ℕ, suc, _+_, _*_}
 use mathlib.Core.Bool.{Bool, true, cond, _&&_}
 use mathlib.Core.List.{List, [], _∷_, _++_}
-use lib.Dec.{leb, ltb, eqb}
+use lib.Dec.{leb, eqb}
 use lib.ListN.{length}
+use Rattle.hex.specs.Digits.{digitOf, isDigit}
 
 -- "A line ends with the byte 0A, which the last may lack.": the lines of an input, after the bytes of a line that has begun
 unfoldable pub linesFrom : List ℕ → List ℕ → List (List ℕ)
@@ -13,13 +14,9 @@ linesFrom line (b ∷ bs) = cond (eqb b 0x0a) (line ∷ linesFrom [] bs) (linesF
 unfoldable pub lines : List ℕ → List (List ℕ)
 lines input = linesFrom [] input
 
--- the value of a digit 0 to 9 or A to F, or 16 for any other byte
-unfoldable pub digitOf : ℕ → ℕ
-digitOf b = cond (leb 0x30 b && leb b 0x39) (b - 0x30) (cond (leb 0x41 b && leb b 0x46) (b - 0x37) 16)
-
 unfoldable pub allDigits : List ℕ → Bool
 allDigits [] = true
-allDigits (b ∷ bs) = ltb (digitOf b) 16 && allDigits bs
+allDigits (b ∷ bs) = isDigit b && allDigits bs
 
 -- "16 upper-case hex digits"
 unfoldable pub isUid : List ℕ → Bool

@@ -1,21 +1,65 @@
--- `lines::take` meets its contract: the line's end or one more byte, by the test of the byte. Assumes nothing.
-use borrow.Author.Needs.{needs}
+-- `lines::take` meets its contract: the line is listed, has a digit more or is wrong, by the two tests. Assumes nothing.
+use mathlib.Core.Path.{_∙_}
 use native.Mathlib.Omega.{arith}
-use Rattle.lines.proofs.LineWays.{stepped-end, stepped-longer}
+use Rattle.lines.specs.Lines.{listed, pushed}
+use Rattle.lines.proofs.LineWays.{fits-digits, uid-count, stepped-uid, stepped-digit, stepped-wrong}
 use Rattle.lines.proofs.take.Statement.{statement}
 use Rattle.lines.proofs.take.Tie as tie
 
-line-ended-requires : tie.Need-line-ended-requires
-line-ended-requires c κs = search needs
+mul-uids : tie.Need-mul-uids
+mul-uids c = omega arith
 
-longer-requires : tie.Need-longer-requires
-longer-requires c κs = search needs
+array-write-uids : tie.Need-array-write-uids
+array-write-uids c =
+    let args = c .before .before .before .args in
+    uid-count (args .lines) (args .b) (c .before .if1 .taken)
+
+add-lines : tie.Need-add-lines
+add-lines c = omega arith
 
 returns : tie.Need-returns
-returns c = rw (c .line-ended .ensures) (stepped-end _ _ (omega arith))
+unfolding listed
+returns c =
+    let args = c .before .before .before .args in
+    stepped-uid (args .lines) (args .b) (c .before .if1 .taken)
+
+digit-of-requires : tie.Need-digit-of-requires
+digit-of-requires c κs = tt
+
+add-lines-2 : tie.Need-add-lines-2
+add-lines-2 c = omega (arith, fits-digits (c .before .before .before .before .before .before .args .lines) (c .before .before .before .digit-of .result) (c .before .if2 .taken) .0)
+
+add-lines-3 : tie.Need-add-lines-3
+add-lines-3 c = omega (arith, fits-digits (c .before .before .before .before .before .before .before .args .lines) (c .before .before .before .before .digit-of .result) (c .before .before .if2 .taken) .1)
 
 returns-2 : tie.Need-returns-2
-returns-2 c = rw (c .longer .ensures) (stepped-longer _ _ (c .before .if1 .left))
+unfolding pushed
+returns-2 c =
+    let args = c .before .before .before .before .before .before .before .args in
+    let digit-of = c .before .before .before .before .digit-of in
+    stepped-digit (args .lines) (args .b) (digit-of .result) (digit-of .ensures) (c .before .before .if2 .taken)
+
+wrong-requires : tie.Need-wrong-requires
+wrong-requires c κs = omega arith
+
+returns-3 : tie.Need-returns-3
+returns-3 c =
+    let args = c .before .before .before .before .before .before .args in
+    let digit-of = c .before .before .before .digit-of in
+    c .wrong .ensures
+    ∙ stepped-wrong (args .lines) (args .b) (digit-of .result) (digit-of .ensures) (c .before .before .before .before .if1 .left) (c .before .if2 .left)
 
 pub take-spec : {M : Type 1} → statement M
-take-spec = tie.close (tie.spec line-ended-requires longer-requires returns returns-2)
+take-spec =
+    tie.close
+    (tie.spec
+    mul-uids
+    array-write-uids
+    add-lines
+    returns
+    digit-of-requires
+    add-lines-2
+    add-lines-3
+    returns-2
+    wrong-requires
+    returns-3)
