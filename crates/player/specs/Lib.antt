@@ -1,2 +1,2 @@
-pub mod Hex
-pub mod Script
+pub mod Text
+pub mod Record

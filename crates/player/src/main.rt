@@ -1,44 +1,51 @@
 // Plays one card from a script on standard input, and prints what the card says. docs/man/espenknoten-player.1 tells the script.
-mod hex;
+mod desk;
+mod lines;
 mod script;
 mod told;
 
-use script::Player;
+ghost use mathlib.Core.Path.{_≡_};
+ghost use Prim.Native.Nat.{_≤_, _<_, min};
+use lines::Reading;
+use script::BAD_LINE;
+use script::Desk;
 
-// Reads once and plays what came. At the end of the input the last line may lack its line end.
-fn play_some(
-    player: Player,
-    line: &mut [u8],
-    memory: &mut [u8],
-    locks: &mut [u8],
-    room: &mut [u8],
-) -> Player {
-    let mut piece = io::buffer();
-    let got = libc::read(libc::STDIN_FILENO, &mut piece);
-    if got <= 0 {
-        return script::hear_end(player, line, memory, locks, room);
-    }
-    let n = io::count(got, &piece);
-    script::hear_piece(player, &piece[..n], line, memory, locks, room)
+fn least(a: usize, b: usize) -> usize
+    ensures { λ r. ⌜ r ≤ a ⌝ }
+    ensures { λ r. ⌜ r ≤ b ⌝ }
+    ensures { λ r. ⌜ r ≡ min a b ⌝ }
+{
+    if a < b { a } else { b }
 }
 
-// A proved loop ends, and nothing says that the input does: the turns count down from a number that no run uses up.
-fn play_all(line: &mut [u8], memory: &mut [u8], locks: &mut [u8], room: &mut [u8]) {
-    let mut player = Player::new();
+// One turn less, or none after the last line.
+fn turns_left(turns: u64, is_last: bool) -> u64
+    requires { ⌜ 0 < turns ⌝ }
+    ensures { λ r. ⌜ r < turns ⌝ }
+{
+    if is_last { 0 } else { turns - 1 }
+}
+
+// Plays line after line. A proved loop ends, and nothing says that the input does: the turns count down from a number that no run uses up.
+fn play_all(piece: &mut [u8], line: &mut [u8], memory: &mut [u8], locks: &mut [u8]) {
+    let mut reading = Reading::new();
+    let mut desk = Desk::new();
+    let mut number = 0;
     let mut turns = u64::MAX;
     while turns > 0 {
-        player = play_some(player, line, memory, locks, room);
-        if player.is_over {
-            return;
-        }
-        turns -= 1;
+        number = std::num::wrapping_add_u64(number, 1);
+        reading = reading.next_line(piece, line);
+        let n = least(reading.length, line.len());
+        desk = desk.hear_line(&line[..n], memory, locks);
+        turns = turns_left(turns, (desk.stage == BAD_LINE) | reading.is_over);
     }
+    told::tell_end(desk.stage == BAD_LINE, number);
 }
 
 fn main() {
-    let mut line = [0u8; 256];
+    let mut piece = io::buffer();
+    let mut line = [0u8; 257];
     let mut memory = [0u8; 8192];
     let mut locks = [0u8; 256];
-    let mut room = [0u8; 8451];
-    play_all(&mut line, &mut memory, &mut locks, &mut room);
+    play_all(&mut piece, &mut line, &mut memory, &mut locks);
 }

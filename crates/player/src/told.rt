@@ -1,125 +1,149 @@
 // What is printed: the answer, and the record after it.
-use crate::hex::least;
-use crate::hex::put_pair;
-use crate::hex::put_row;
-use card::Card;
-use card::Held;
-use card::Mode;
-use card::Sequence;
+ghost use Prim.Native.Nat.{_≤_};
+ghost use lib.ListN.{length};
+ghost use mathlib.Core.List.{[], _∷_, _++_};
+ghost use Rattle.hex.specs.Rows.{rowText};
+ghost use Rattle.player.specs.Text.{Adds};
+ghost use Rattle.player.specs.Record.{wordFor, sequenceText, heldText, keptText, recordText};
+use crate::least;
 use libc::STDOUT_FILENO;
 
-// A line that can't be read.
-pub(crate) fn tell_bad_line(number: u64) {
+// The end of the script. A line that can't be read is told.
+pub(crate) fn tell_end(is_bad: bool, number: u64) {
+    if !is_bad {
+        return;
+    }
     io::write_all(STDOUT_FILENO, b"bad line ");
     io::print_decimal(STDOUT_FILENO, number);
     io::write_all(STDOUT_FILENO, b"\n");
 }
 
-// A space and the pair for a byte.
-fn tell_pair(b: u8) {
-    let mut text = [0u8; 3];
-    put_pair(b, &mut text, 0);
-    io::write_all(STDOUT_FILENO, &text);
-}
-
-// A row without its first space.
-fn tell_row(row: &[u8]) {
-    if 0 < row.len() {
-        io::write_all(STDOUT_FILENO, &row[1..]);
+// Puts bytes at a place of a text, as many as it has room for, and returns the place after them.
+fn put(bytes: &[u8], text: &mut [u8], at: usize) -> usize
+    ensures { λ r. ⌜ Adds at (now (bytes .entry)) (now (text .entry)) r (now (text .exit)) ⌝ }
+{
+    let count = least(text.len() - least(at, text.len()), bytes.len());
+    let mut i = 0;
+    while i < count {
+        text[at + i] = bytes[i];
+        i += 1;
     }
+    at + count
 }
 
-// The bytes of an answer.
-fn tell_bytes(bytes: &[u8]) {
-    let mut text = [0u8; 25353];
-    let k = least(bytes.len(), 8451);
-    let n = put_row(&bytes[..k], &mut text);
-    tell_row(&text[..n]);
-}
-
-// The answer, silence, or the number of the refusal.
-pub(crate) fn tell_answer(number: u8, length: usize, room: &[u8]) {
-    if number != 0 {
-        io::write_all(STDOUT_FILENO, b"refused ");
-        io::print_decimal(STDOUT_FILENO, number as u64);
-    } else if length == 0 {
-        io::write_all(STDOUT_FILENO, b"silence");
-    } else {
-        let n = least(length, room.len());
-        tell_bytes(&room[..n]);
+// Puts one of three words: for 0, for 1, and for any other byte.
+fn put_word(b: u8, zero: &[u8], one: &[u8], other: &[u8], text: &mut [u8], at: usize) -> usize
+    ensures { λ r. ⌜ Adds at (wordFor b (now (zero .entry)) (now (one .entry)) (now (other .entry))) (now (text .entry)) r (now (text .exit)) ⌝ }
+{
+    if b == 0 {
+        return put(zero, text, at);
     }
-    io::write_all(STDOUT_FILENO, b"\n");
-}
-
-fn tell_mode(mode: Mode) {
-    match mode {
-        Mode::Ready => {
-            io::write_all(STDOUT_FILENO, b"  mode Ready");
-        }
-        Mode::Quiet => {
-            io::write_all(STDOUT_FILENO, b"  mode Quiet");
-        }
-        Mode::Selected => {
-            io::write_all(STDOUT_FILENO, b"  mode Selected");
-        }
+    if b == 1 {
+        return put(one, text, at);
     }
+    put(other, text, at)
 }
 
-// The eight bytes of a mask as a row, as a frame has them.
-fn tell_mask(mask: u64) {
-    let mut bytes = [0u8; 8];
-    frames::put_field(&mut bytes, 0, 8, mask);
-    let mut text = [0u8; 24];
-    let n = put_row(&bytes, &mut text);
-    io::write_all(STDOUT_FILENO, &text[..n]);
+// Puts a name and the row for up to eight bytes.
+fn put_row(name: &[u8], bytes: &[u8], text: &mut [u8], at: usize) -> usize
+    requires { ⌜ length (now bytes) ≤ 8 ⌝ }
+    ensures { λ r. ⌜ Adds at (now (name .entry) ++ rowText (now (bytes .entry))) (now (text .entry)) r (now (text .exit)) ⌝ }
+{
+    let mut row = [0u8; 24];
+    hex::put_row(bytes, &mut row, 0);
+    let next = put(name, text, at);
+    put(&row[..3 * bytes.len()], text, next)
 }
 
-fn tell_sequence(sequence: Sequence) {
-    match sequence {
-        Sequence::Idle => {}
-        Sequence::Running(slot, n, mask) => {
-            io::write_all(STDOUT_FILENO, b", slot");
-            tell_pair(slot);
-            io::write_all(STDOUT_FILENO, b", mask length");
-            tell_pair(n);
-            io::write_all(STDOUT_FILENO, b", mask");
-            tell_mask(mask);
-        }
+fn put_pair(name: &[u8], b: u8, text: &mut [u8], at: usize) -> usize
+    ensures { λ r. ⌜ Adds at (now (name .entry) ++ rowText (b ∷ [])) (now (text .entry)) r (now (text .exit)) ⌝ }
+{
+    let one = [b];
+    put_row(name, &one, text, at)
+}
+
+// The sequence, if one runs.
+fn put_sequence(card: [u8; 40], text: &mut [u8], at: usize) -> usize
+    ensures { λ r. ⌜ Adds at (sequenceText card) (now (text .entry)) r (now (text .exit)) ⌝ }
+{
+    if card[22] == 0 {
+        return at;
     }
+    let slot = put_pair(b", slot", card[23], text, at);
+    let length = put_pair(b", mask length", card[24], text, slot);
+    put_row(b", mask", &card[32..40], text, length)
 }
 
-fn tell_held(held: Held) {
-    match held {
-        Held::Free => {}
-        Held::Success => {
-            io::write_all(STDOUT_FILENO, b", held success");
-        }
-        Held::Code(code) => {
-            io::write_all(STDOUT_FILENO, b", held error");
-            tell_pair(code);
-        }
+// The held answer, if there is one.
+fn put_held(held: u8, text: &mut [u8], at: usize) -> usize
+    ensures { λ r. ⌜ Adds at (heldText held) (now (text .entry)) r (now (text .exit)) ⌝ }
+{
+    if held < 2 {
+        return put_word(held, b"", b", held success", b"", text, at);
     }
+    put_pair(b", held error", held, text, at)
 }
 
-fn tell_lock(locked: bool) {
-    if locked {
-        io::write_all(STDOUT_FILENO, b" locked");
-    }
+// A byte of the record that may be locked.
+fn put_kept(name: &[u8], b: u8, lock: u8, text: &mut [u8], at: usize) -> usize
+    ensures { λ r. ⌜ Adds at (keptText (now (name .entry)) b lock) (now (text .entry)) r (now (text .exit)) ⌝ }
+{
+    let next = put_pair(name, b, text, at);
+    put_word(lock, b"", b" locked", b" locked", text, next)
 }
 
 // The record, on a line of its own.
-pub(crate) fn tell_record(card: Card) {
-    let mode = card.mode;
-    let sequence = card.sequence;
-    let held = card.held;
-    tell_mode(mode);
-    tell_sequence(sequence);
-    tell_held(held);
-    io::write_all(STDOUT_FILENO, b", AFI");
-    tell_pair(card.afi);
-    tell_lock(card.afi_locked);
-    io::write_all(STDOUT_FILENO, b", DSFID");
-    tell_pair(card.dsfid);
-    tell_lock(card.dsfid_locked);
-    io::write_all(STDOUT_FILENO, b"\n");
+fn put_record(card: [u8; 40], text: &mut [u8], at: usize) -> usize
+    ensures { λ r. ⌜ Adds at (recordText card) (now (text .entry)) r (now (text .exit)) ⌝ }
+{
+    let mode = put_word(
+        card[21],
+        b"\n  mode Ready",
+        b"\n  mode Quiet",
+        b"\n  mode Selected",
+        text,
+        at,
+    );
+    let sequence = put_sequence(card, text, mode);
+    let held = put_held(card[25], text, sequence);
+    let afi = put_kept(b", AFI", card[16], card[18], text, held);
+    let dsfid = put_kept(b", DSFID", card[17], card[19], text, afi);
+    put(b"\n", text, dsfid)
+}
+
+// The number of a card's refusal, 1 to 4.
+fn refusal(back: i64) -> u64 {
+    if back == -1 {
+        return 1;
+    }
+    if back == -2 {
+        return 2;
+    }
+    if back == -3 {
+        return 3;
+    }
+    4
+}
+
+// The answer, silence, or the number of the refusal, after a space.
+fn put_answer(back: i64, room: &[u8], text: &mut [u8]) -> usize {
+    if back == 0 {
+        return put(b" silence", text, 0);
+    }
+    if back < 0 {
+        let one = [hex::digit(refusal(back))];
+        let next = put(b" refused ", text, 0);
+        return put(&one, text, next);
+    }
+    let n = io::count(back as isize, room);
+    io::count(hex::put_row(&room[..n], text, 0) as isize, text)
+}
+
+// Tells the answer and the record after it.
+pub(crate) fn tell(back: i64, room: &[u8], card: [u8; 40]) {
+    let mut text = [0u8; 25600];
+    let next = put_answer(back, room, &mut text);
+    let n = least(put_record(card, &mut text, next), 25600);
+    let from = least(1, n);
+    io::write_all(STDOUT_FILENO, &text[from..n]);
 }

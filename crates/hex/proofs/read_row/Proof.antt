@@ -1,5 +1,5 @@
--- `hex::read_row` meets its contract. The loop's invariant: the bytes of the row that is left, placed here, come to the whole. The measure is how many
--- are left. Assumes nothing.
+-- `hex::read_row` meets its contract. The loop's invariant: the bytes of the row that is left, placed here, come to the whole. The measure is how
+-- many are left. Assumes nothing.
 use native.Mathlib.Omega.{arith}
 use mathlib.Core.Path.{_≡_, refl, sym, _∙_}
 use mir.Syntax.{w64}

@@ -1,25 +1,57 @@
 -- `player::play_all` is safe and ends. The loop's invariant: the lent buffers keep their lengths. The measure is the number of turns that are left.
 -- Assumes nothing.
 use native.Mathlib.Omega.{arith}
-use mathlib.Core.Path.{_≡_, refl}
+use mathlib.Core.Path.{_≡_, refl, sym}
 use lib.ListN.{length}
+use lib.Seq.{length-take-le}
 use Rattle.player.proofs.play_all.Statement.{statement}
 use Rattle.player.proofs.play_all.Tie as tie
 
 abbrev Inv-loop : tie.InvT-loop
-Inv-loop line₀ memory₀ locks₀ room₀ player₀ turns₀ line memory locks room player turns = (length line ≡ length line₀) × (length memory ≡ length memory₀) × (length locks ≡ length locks₀) × (length room ≡ length room₀)
+Inv-loop piece₀ line₀ memory₀ locks₀ reading₀ desk₀ number₀ turns₀ piece line memory locks reading desk number turns =
+    (length piece ≡ length piece₀) × (length line ≡ length line₀) × (length memory ≡ length memory₀) × (length locks ≡ length locks₀)
 
 abbrev μ-loop : tie.MeasureT-loop
-μ-loop line₀ memory₀ locks₀ room₀ player₀ turns₀ line memory locks room player turns = turns
+μ-loop piece₀ line₀ memory₀ locks₀ reading₀ desk₀ number₀ turns₀ piece line memory locks reading desk number turns = turns
 
 new-requires : tie.Need-new-requires Inv-loop μ-loop
 new-requires c κs = tt
 
+new-requires-2 : tie.Need-new-requires-2 Inv-loop μ-loop
+new-requires-2 c κs = tt
+
 loop-holds : tie.Need-loop-holds Inv-loop μ-loop
 loop-holds c = (refl, refl, refl, refl)
 
-play-some-requires : tie.Need-play-some-requires Inv-loop μ-loop
-play-some-requires c κs = tt
+wrapping-add-u64-requires : tie.Need-wrapping-add-u64-requires Inv-loop μ-loop
+wrapping-add-u64-requires c κs = tt
+
+next-line-requires : tie.Need-next-line-requires Inv-loop μ-loop
+next-line-requires c κs = tt
+
+least-requires : tie.Need-least-requires Inv-loop μ-loop
+least-requires c κs = tt
+
+slice-reshare-prefix-hear-line : tie.Need-slice-reshare-prefix-hear-line Inv-loop μ-loop
+slice-reshare-prefix-hear-line c = omega arith
+
+slice-aggregate-hear-line : tie.Need-slice-aggregate-hear-line Inv-loop μ-loop
+slice-aggregate-hear-line c = sym (length-take-le (c .before .least .result) (c .before .before .before .before .before .before .next-line .last .1 .1 .0) (omega arith))
+
+hear-line-requires : tie.Need-hear-line-requires Inv-loop μ-loop
+hear-line-requires c κs = tt
+
+turns-left-requires : tie.Need-turns-left-requires Inv-loop μ-loop
+turns-left-requires c κs = omega arith
+
+loop-less : tie.Need-loop-less Inv-loop μ-loop
+loop-less c = omega arith
+
+loop-again : tie.Need-loop-again Inv-loop μ-loop
+loop-again c = (omega arith, omega arith, omega arith, omega arith)
+
+tell-end-requires : tie.Need-tell-end-requires Inv-loop μ-loop
+tell-end-requires c κs = tt
 
 same-length : tie.Need-same-length Inv-loop μ-loop
 same-length c = omega arith
@@ -36,30 +68,6 @@ same-length-4 c = omega arith
 returns : tie.Need-returns Inv-loop μ-loop
 returns c = tt
 
-sub-turns : tie.Need-sub-turns Inv-loop μ-loop
-sub-turns c = omega arith
-
-loop-less : tie.Need-loop-less Inv-loop μ-loop
-loop-less c = omega arith
-
-loop-again : tie.Need-loop-again Inv-loop μ-loop
-loop-again c = (omega arith, omega arith, omega arith, omega arith)
-
-same-length-5 : tie.Need-same-length-5 Inv-loop μ-loop
-same-length-5 c = omega arith
-
-same-length-6 : tie.Need-same-length-6 Inv-loop μ-loop
-same-length-6 c = omega arith
-
-same-length-7 : tie.Need-same-length-7 Inv-loop μ-loop
-same-length-7 c = omega arith
-
-same-length-8 : tie.Need-same-length-8 Inv-loop μ-loop
-same-length-8 c = omega arith
-
-returns-2 : tie.Need-returns-2 Inv-loop μ-loop
-returns-2 c = tt
-
 pub play-all-spec : {M : Type 1} → statement M
 play-all-spec =
     tie.close
@@ -67,18 +75,20 @@ play-all-spec =
     Inv-loop
     μ-loop
     new-requires
+    new-requires-2
     loop-holds
-    play-some-requires
+    wrapping-add-u64-requires
+    next-line-requires
+    least-requires
+    slice-reshare-prefix-hear-line
+    slice-aggregate-hear-line
+    hear-line-requires
+    turns-left-requires
+    loop-less
+    loop-again
+    tell-end-requires
     same-length
     same-length-2
     same-length-3
     same-length-4
-    returns
-    sub-turns
-    loop-less
-    loop-again
-    same-length-5
-    same-length-6
-    same-length-7
-    same-length-8
-    returns-2)
+    returns)

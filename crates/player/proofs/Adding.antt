@@ -1,0 +1,137 @@
+-- Laws of a text that grows: what is added in two pieces is added in one, and one piece byte by byte. By the place where each piece goes.
+-- Assumes nothing.
+use mathlib.Core.Path.{_≡_, refl, sym, ap, _∙_}
+use mathlib.Core.Bool.{true}
+use mathlib.Core.List.{List, [], _∷_, _++_}
+use Prim.Native.Nat.{ℕ, zero, suc, _+_, _-_, _*_, _≤_, _<_, min}
+use native.Mathlib.Numerals.{add-one}
+use native.Mathlib.Decide.{decLe}
+use native.Mathlib.Omega.{arith}
+use borrow.Author.Tests.{le-leb}
+use lib.Dec.{leb}
+use lib.IntN.{ℤ}
+use lib.ListN.{length, take, getD, set, length-take, length-append}
+use lib.Seq.{take-suc, take-nil, length-take-le}
+use Rattle.lent.specs.Lent.{over, placed}
+use Rattle.lent.proofs.Over.{length-placed, placed-none, placed-placed, placed-start, set-placed, take-over}
+use Rattle.hex.specs.Rows.{rowText, putLeaves, PutsRow}
+use Rattle.hex.proofs.Rows.{length-row-text}
+use Rattle.player.specs.Text.{cut, Adds}
+
+take-append : (n : ℕ) (s v : List ℕ) → take n (s ++ v) ≡ take n s ++ take (n - length s) v
+take-append n [] v =
+    let all : n - 0 ≡ n = omega arith in
+    rw (take-nil n, all)
+take-append zero (x ∷ s) v =
+    let none : 0 - suc (length s) ≡ 0 = omega arith in
+    rw none
+take-append (suc n) (x ∷ s) v =
+    let less : suc n - suc (length s) ≡ n - length s = omega arith in
+    rw (take-append n s v, less)
+
+-- as many as there are
+take-min : (n : ℕ) (s : List ℕ) → take (min n (length s)) s ≡ take n s
+take-min n [] = take-nil (min n 0) ∙ sym (take-nil n)
+take-min zero (x ∷ s) =
+    let none : min 0 (suc (length s)) ≡ 0 = omega arith in
+    rw none
+take-min (suc n) (x ∷ s) =
+    let one : min (suc n) (suc (length s)) ≡ suc (min n (length s)) = omega arith in
+    rw (one, take-min n s)
+
+module _ (at : ℕ) (s v e : List ℕ) (h : at ≤ length e) where
+  fits : at + length (cut at s e) ≤ length e
+  unfolding cut
+  fits = rw length-take (omega arith)
+
+  -- the rest of the room
+  rest : length e - (at + length (cut at s e)) ≡ length e - at - length s
+  unfolding cut
+  rest = rw length-take (omega arith)
+
+  cut-cut : cut at s e ++ cut (at + length (cut at s e)) v (placed at (cut at s e) e) ≡ cut at (s ++ v) e
+  unfolding cut
+  cut-cut = rw (length-placed at (cut at s e) e fits, rest, take-append (length e - at) s v)
+
+  fits-both : at + length (cut at s e) + length (cut (at + length (cut at s e)) v (placed at (cut at s e) e)) ≤ length e
+  unfolding cut
+  fits-both =
+      let room : ℕ = length e - (at + length (cut at s e)) in
+      rw (length-placed at (cut at s e) e fits) (omega (arith, fits, length-take room v))
+
+  then : {r : ℕ} {g : List ℕ} → Adds (at + length (cut at s e)) v (placed at (cut at s e) e) r g → Adds at (s ++ v) e r g
+  then {r} {g} q =
+      let c : List ℕ = cut at s e in
+      let d : List ℕ = cut (at + length c) v (placed at c e) in
+      let both : length (c ++ d) ≡ length c + length d = length-append c d in
+      let all : length (c ++ d) ≡ length (cut at (s ++ v) e) = ap length cut-cut in
+      let end : r ≡ at + length c + length d = q .next in
+      record {
+        next = omega arith;
+        leaves = q .leaves ∙ placed-placed at c d e fits-both ∙ ap (λ (l : List ℕ). placed at l e) cut-cut;
+      }
+
+-- past the end there is no room
+past : (at : ℕ) (s v e : List ℕ) {r : ℕ} {g : List ℕ} → length e ≤ at
+    → Adds (at + length (cut at s e)) v (placed at (cut at s e) e) r g → Adds at (s ++ v) e r g
+unfolding cut
+past at s v e h q =
+    let none : length e - at ≡ 0 = omega arith in
+    let here : at + 0 ≡ at = omega arith in
+    let end = rw (none, placed-none, here, none) at (q .next) in
+    let left = rw (none, placed-none, here, none) at (q .leaves) in
+    record { next = rw none end; leaves = rw none left }
+
+-- two pieces are one
+pub adds-then : {at m r : ℕ} {s v e f g : List ℕ} → Adds at s e m f → Adds m v f r g → Adds at (s ++ v) e r g
+adds-then {at} {m} {r} {s} {v} {e} {f} {g} p q = go (decLe at (length e)) (rw (p .next, p .leaves) at q)
+  where
+    go : Dec (at ≤ length e) → Adds (at + length (cut at s e)) v (placed at (cut at s e) e) r g → Adds at (s ++ v) e r g
+    go (yes h) there = then at s v e h there
+    go (no h) there = past at s v e (omega arith) there
+
+-- and no piece changes nothing
+pub adds-none : (at : ℕ) (e : List ℕ) → Adds at [] e at e
+unfolding cut
+adds-none at e =
+    let none : take {A = ℕ} (length e - at) [] ≡ [] = take-nil (length e - at) in
+    record { next = rw none (omega arith); leaves = rw none (sym (placed-none at e)) }
+
+-- ---- one piece, byte by byte
+
+pub copied-none : (at : ℕ) (s e : List ℕ) → e ≡ placed at (take 0 s) e
+copied-none at s e = sym (placed-none at e)
+
+pub copied-more : (at i : ℕ) (s e f : List ℕ) → f ≡ placed at (take i s) e → i < length s → at + i < length e
+    → set f (at + i) (getD s i 0) ≡ placed at (take (i + 1) s) e
+copied-more at i s e f is h k =
+    let all : length (take i s) ≡ i = length-take-le i s (omega arith) in
+    let place : at + length (take i s) ≡ at + i = ap (λ (n : ℕ). at + n) all in
+    rw is (ap (λ (n : ℕ). set (placed at (take i s) e) n (getD s i 0)) (sym place)
+    ∙ set-placed at (take i s) e (getD s i 0) (rw place k)
+    ∙ rw (add-one, take-suc s i 0 h))
+
+pub copied-all : (at : ℕ) (s e f : List ℕ) (room count : ℕ) → room ≡ min at (length e) → count ≡ min (length e - room) (length s)
+    → f ≡ placed at (take count s) e → Adds at s e (at + count) f
+unfolding cut
+copied-all at s e f room count is-room is-count is =
+    let same : length e - room ≡ length e - at = omega arith in
+    let piece : take count s ≡ take (length e - at) s = rw (is-count, same) (take-min (length e - at) s) in
+    record { next = omega (arith, length-take (length e - at) s); leaves = rw (is, piece) }
+
+-- ---- a row that was put into a buffer of its own
+
+row-over : (bytes found left : List ℕ) {r : ℤ} → PutsRow bytes found 0 r left → 3 * length bytes ≤ length found → left ≡ over (rowText bytes) found
+unfolding putLeaves
+row-over bytes found left p h =
+    let room : leb (0 + 3 * length bytes) (length found) ≡ true = le-leb (0 + 3 * length bytes) (length found) (omega arith) in
+    rw room at (p .leaves) ∙ placed-start (rowText bytes) found
+
+pub row-taken : (bytes found left : List ℕ) {r : ℤ} → PutsRow bytes found 0 r left → 3 * length bytes ≤ length found
+    → take (3 * length bytes) left ≡ rowText bytes
+row-taken bytes found left p h =
+    rw (row-over bytes found left p h, ← (length-row-text bytes)) (take-over (rowText bytes) found)
+
+pub row-length : (bytes found left : List ℕ) {r : ℤ} → PutsRow bytes found 0 r left → 3 * length bytes ≤ length found
+    → 3 * length bytes ≡ length (take (3 * length bytes) left)
+row-length bytes found left p h = rw (row-taken bytes found left p h) (sym (length-row-text bytes))
