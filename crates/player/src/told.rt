@@ -4,7 +4,7 @@ ghost use lib.ListN.{length};
 ghost use mathlib.Core.List.{[], _∷_, _++_};
 ghost use Rattle.hex.specs.Rows.{rowText};
 ghost use Rattle.player.specs.Text.{Adds};
-ghost use Rattle.player.specs.Record.{wordFor, sequenceText, heldText, keptText, recordText};
+ghost use Rattle.player.specs.Record.{modeText, sequenceText, heldText, keptText, recordText};
 use crate::least;
 use libc::STDOUT_FILENO;
 
@@ -31,19 +31,6 @@ fn put(bytes: &[u8], text: &mut [u8], at: usize) -> usize
     at + count
 }
 
-// Puts one of three words: for 0, for 1, and for any other byte.
-fn put_word(b: u8, zero: &[u8], one: &[u8], other: &[u8], text: &mut [u8], at: usize) -> usize
-    ensures { λ r. ⌜ Adds at (wordFor b (now (zero .entry)) (now (one .entry)) (now (other .entry))) (now (text .entry)) r (now (text .exit)) ⌝ }
-{
-    if b == 0 {
-        return put(zero, text, at);
-    }
-    if b == 1 {
-        return put(one, text, at);
-    }
-    put(other, text, at)
-}
-
 // Puts a name and the row for up to eight bytes.
 fn put_row(name: &[u8], bytes: &[u8], text: &mut [u8], at: usize) -> usize
     requires { ⌜ length (now bytes) ≤ 8 ⌝ }
@@ -62,6 +49,18 @@ fn put_pair(name: &[u8], b: u8, text: &mut [u8], at: usize) -> usize
     put_row(name, &one, text, at)
 }
 
+fn put_mode(mode: u8, text: &mut [u8], at: usize) -> usize
+    ensures { λ r. ⌜ Adds at (modeText mode) (now (text .entry)) r (now (text .exit)) ⌝ }
+{
+    if mode == 0 {
+        return put(b"\n  mode Ready", text, at);
+    }
+    if mode == 1 {
+        return put(b"\n  mode Quiet", text, at);
+    }
+    put(b"\n  mode Selected", text, at)
+}
+
 // The sequence, if one runs.
 fn put_sequence(card: [u8; 40], text: &mut [u8], at: usize) -> usize
     ensures { λ r. ⌜ Adds at (sequenceText card) (now (text .entry)) r (now (text .exit)) ⌝ }
@@ -78,8 +77,11 @@ fn put_sequence(card: [u8; 40], text: &mut [u8], at: usize) -> usize
 fn put_held(held: u8, text: &mut [u8], at: usize) -> usize
     ensures { λ r. ⌜ Adds at (heldText held) (now (text .entry)) r (now (text .exit)) ⌝ }
 {
-    if held < 2 {
-        return put_word(held, b"", b", held success", b"", text, at);
+    if held == 0 {
+        return at;
+    }
+    if held == 1 {
+        return put(b", held success", text, at);
     }
     put_pair(b", held error", held, text, at)
 }
@@ -89,26 +91,21 @@ fn put_kept(name: &[u8], b: u8, lock: u8, text: &mut [u8], at: usize) -> usize
     ensures { λ r. ⌜ Adds at (keptText (now (name .entry)) b lock) (now (text .entry)) r (now (text .exit)) ⌝ }
 {
     let next = put_pair(name, b, text, at);
-    put_word(lock, b"", b" locked", b" locked", text, next)
+    if lock == 0 {
+        return next;
+    }
+    put(b" locked", text, next)
 }
 
-// The record, on a line of its own.
+// The record, on the next line.
 fn put_record(card: [u8; 40], text: &mut [u8], at: usize) -> usize
     ensures { λ r. ⌜ Adds at (recordText card) (now (text .entry)) r (now (text .exit)) ⌝ }
 {
-    let mode = put_word(
-        card[21],
-        b"\n  mode Ready",
-        b"\n  mode Quiet",
-        b"\n  mode Selected",
-        text,
-        at,
-    );
+    let mode = put_mode(card[21], text, at);
     let sequence = put_sequence(card, text, mode);
     let held = put_held(card[25], text, sequence);
     let afi = put_kept(b", AFI", card[16], card[18], text, held);
-    let dsfid = put_kept(b", DSFID", card[17], card[19], text, afi);
-    put(b"\n", text, dsfid)
+    put_kept(b", DSFID", card[17], card[19], text, afi)
 }
 
 // The number of a card's refusal, 1 to 4.
@@ -142,8 +139,9 @@ fn put_answer(back: i64, room: &[u8], text: &mut [u8]) -> usize {
 // Tells the answer and the record after it.
 pub(crate) fn tell(back: i64, room: &[u8], card: [u8; 40]) {
     let mut text = [0u8; 25600];
-    let next = put_answer(back, room, &mut text);
-    let n = least(put_record(card, &mut text, next), 25600);
+    let answer = put_answer(back, room, &mut text);
+    let record = put_record(card, &mut text, answer);
+    let n = least(put(b"\n", &mut text, record), 25600);
     let from = least(1, n);
     io::write_all(STDOUT_FILENO, &text[from..n]);
 }

@@ -36,7 +36,9 @@ slice-reshare-prefix-hear-line : tie.Need-slice-reshare-prefix-hear-line Inv-loo
 slice-reshare-prefix-hear-line c = omega arith
 
 slice-aggregate-hear-line : tie.Need-slice-aggregate-hear-line Inv-loop μ-loop
-slice-aggregate-hear-line c = sym (length-take-le (c .before .least .result) (c .before .before .before .before .before .before .next-line .last .1 .1 .0) (omega arith))
+slice-aggregate-hear-line c =
+    let line = c .before .before .before .before .before .before .next-line .last .1 .1 .0 in
+    sym (length-take-le (c .before .least .result) line (omega arith))
 
 hear-line-requires : tie.Need-hear-line-requires Inv-loop μ-loop
 hear-line-requires c κs = tt

@@ -1,74 +1,55 @@
-use mathlib.Core.Path.{sym}
+-- `player::script::frame_after` is safe and ends: the word ends within the line. Assumes nothing.
 use lib.Seq.{length-take-le}
-use native.Mathlib.Omega.{arith}
+use mathlib.Core.Path.{sym}
 use borrow.Author.Needs.{needs}
-use Rattle.player.proofs.script.frame_after.Statement.{statement}
+use native.Mathlib.Omega.{arith}
 use Rattle.player.proofs.script.frame_after.Tie as tie
-use Rattle.player.proofs.script.frame_after.Reads as reads
-use Rattle.player.proofs.script.frame_after.Lts as lts
-use Rattle.hex.proofs.has_form.Reads as has-form-reads
-use Rattle.hex.proofs.is_row.Reads as is-row-reads
-use Rattle.hex.proofs.read_row.Reads as read-row-reads
-use Rattle.io.proofs.count.Reads as count-reads
-use Rattle.player.proofs.least.Reads as least-reads
+use Rattle.player.proofs.script.frame_after.Statement.{statement}
 
--- src/script.rt:35:9
 least-requires : tie.Need-least-requires
-least-requires c κs = search needs
+least-requires c κs = tt
 
--- src/script.rt:36:22
 slice-aggregate-has-form : tie.Need-slice-aggregate-has-form
-slice-aggregate-has-form c = sym (length-take-le (c .before .least .result) (c .before .before .before .before .before .args .line .now) (omega arith))
+slice-aggregate-has-form c =
+    let line = c .before .before .before .before .before .args .line .now in
+    sym (length-take-le (c .before .least .result) line (omega arith))
 
--- src/script.rt:36:8
 has-form-requires : tie.Need-has-form-requires
-has-form-requires c κs = search needs
+has-form-requires c κs = tt
 
--- src/script.rt:36:55
 sub-is-row : tie.Need-sub-is-row
 sub-is-row c = search needs
 
--- src/script.rt:36:55
 part-is-row-start : tie.Need-part-is-row-start
 part-is-row-start c = search needs
 
--- src/script.rt:36:55
 part-is-row-end : tie.Need-part-is-row-end
 part-is-row-end c = search needs
 
--- src/script.rt:36:43
 is-row-requires : tie.Need-is-row-requires
-is-row-requires c κs = search needs
+is-row-requires c κs = tt
 
--- src/script.rt:37:40
 sub-read-row : tie.Need-sub-read-row
 sub-read-row c = search needs
 
--- src/script.rt:37:40
 part-read-row-start : tie.Need-part-read-row-start
 part-read-row-start c = search needs
 
--- src/script.rt:37:40
 part-read-row-end : tie.Need-part-read-row-end
 part-read-row-end c = search needs
 
--- src/script.rt:37:26
 read-row-requires : tie.Need-read-row-requires
-read-row-requires c κs = search needs
+read-row-requires c κs = tt
 
--- src/script.rt:37:9
 count-requires : tie.Need-count-requires
-count-requires c κs = search needs
+count-requires c κs = tt
 
--- src/script.rt:37:9
 same-length : tie.Need-same-length
 same-length c = search needs
 
--- src/script.rt:37:9
 returns : tie.Need-returns
 returns c = search needs
 
--- src/script.rt:34:1
 returns-2 : tie.Need-returns-2
 returns-2 c = search needs
 

@@ -1,66 +1,59 @@
+-- `player::told::put_held` meets its contract, by its two tests. Assumes nothing.
+use borrow.Author.Tests.{eq-eqb, ne-eqb}
 use borrow.Author.Needs.{needs}
-use borrow.Author.Tests.{lt-ltb, le-ltb}
+use Rattle.player.proofs.Adding.{adds-none}
 use Rattle.player.specs.Record.{heldText}
-use Rattle.player.proofs.told.put_held.Statement.{statement}
 use Rattle.player.proofs.told.put_held.Tie as tie
-use Rattle.player.proofs.told.put_held.Reads as reads
-use Rattle.player.proofs.told.put_held.Lts as lts
-use Rattle.player.proofs.told.put_pair.Reads as put-pair-reads
-use Rattle.player.proofs.told.put_word.Reads as put-word-reads
+use Rattle.player.proofs.told.put_held.Statement.{statement}
 
--- src/told.rt:79:31
-slice-aggregate-put-word : tie.Need-slice-aggregate-put-word
-slice-aggregate-put-word c = search needs
+returns : tie.Need-returns
+unfolding heldText
+returns c =
+    let args = c .before .before .args in
+    rw (eq-eqb (args .held) 0 (c .if1 .taken)) (adds-none (args .at) (args .text .now))
 
--- src/told.rt:79:36
-slice-aggregate-put-word-2 : tie.Need-slice-aggregate-put-word-2
-slice-aggregate-put-word-2 c = search needs
+slice-aggregate-put : tie.Need-slice-aggregate-put
+slice-aggregate-put c = search needs
 
--- src/told.rt:79:55
-slice-aggregate-put-word-3 : tie.Need-slice-aggregate-put-word-3
-slice-aggregate-put-word-3 c = search needs
+put-requires : tie.Need-put-requires
+put-requires c κs = tt
 
--- src/told.rt:79:9
-put-word-requires : tie.Need-put-word-requires
-put-word-requires c κs = search needs
-
--- src/told.rt:79:9
 same-length : tie.Need-same-length
 same-length c = search needs
 
--- src/told.rt:79:9
-returns : tie.Need-returns
+returns-2 : tie.Need-returns-2
 unfolding heldText
-returns c = rw (lt-ltb (c .before .before .before .before .before .before .before .before .before .args .held) 2 (c .before .before .before .before .before .before .before .if1 .taken)) (c .before .before .put-word .ensures)
+returns-2 c =
+    let held = c .before .before .before .before .before .before .before .before .args .held in
+    let not-0 = ne-eqb held 0 (c .before .before .before .before .before .before .if1 .left) in
+    rw (not-0, eq-eqb held 1 (c .before .before .before .before .before .if2 .taken)) (c .before .before .put .ensures)
 
--- src/told.rt:81:14
 slice-aggregate-put-pair : tie.Need-slice-aggregate-put-pair
 slice-aggregate-put-pair c = search needs
 
--- src/told.rt:81:5
 put-pair-requires : tie.Need-put-pair-requires
-put-pair-requires c κs = search needs
+put-pair-requires c κs = tt
 
--- src/told.rt:75:1
 same-length-2 : tie.Need-same-length-2
 same-length-2 c = search needs
 
--- src/told.rt:75:1
-returns-2 : tie.Need-returns-2
+returns-3 : tie.Need-returns-3
 unfolding heldText
-returns-2 c = rw (le-ltb (c .before .before .before .before .before .before .before .args .held) 2 (c .before .before .before .before .before .if1 .left)) (c .before .before .put-pair .ensures)
+returns-3 c =
+    let held = c .before .before .before .before .before .before .before .before .args .held in
+    let not-0 = ne-eqb held 0 (c .before .before .before .before .before .before .if1 .left) in
+    rw (not-0, ne-eqb held 1 (c .before .before .before .before .before .if2 .left)) (c .before .before .put-pair .ensures)
 
 pub put-held-spec : {M : Type 1} → statement M
 put-held-spec =
     tie.close
     (tie.spec
-    slice-aggregate-put-word
-    slice-aggregate-put-word-2
-    slice-aggregate-put-word-3
-    put-word-requires
-    same-length
     returns
+    slice-aggregate-put
+    put-requires
+    same-length
+    returns-2
     slice-aggregate-put-pair
     put-pair-requires
     same-length-2
-    returns-2)
+    returns-3)

@@ -1,50 +1,47 @@
+-- `player::told::put_kept` meets its contract: a pair, and a word after it if there is one. Assumes nothing.
+use borrow.Author.Tests.{eq-eqb, ne-eqb}
 use borrow.Author.Needs.{needs}
-use Rattle.player.specs.Record.{keptText}
 use Rattle.player.proofs.Adding.{adds-then}
-use Rattle.player.proofs.told.put_kept.Statement.{statement}
+use Rattle.player.specs.Record.{keptText}
 use Rattle.player.proofs.told.put_kept.Tie as tie
-use Rattle.player.proofs.told.put_kept.Reads as reads
-use Rattle.player.proofs.told.put_kept.Lts as lts
-use Rattle.player.proofs.told.put_pair.Reads as put-pair-reads
-use Rattle.player.proofs.told.put_word.Reads as put-word-reads
+use Rattle.player.proofs.told.put_kept.Statement.{statement}
 
--- src/told.rt:88:9
 put-pair-requires : tie.Need-put-pair-requires
-put-pair-requires c κs = search needs
+put-pair-requires c κs = tt
 
--- src/told.rt:89:20
-slice-aggregate-put-word : tie.Need-slice-aggregate-put-word
-slice-aggregate-put-word c = search needs
-
--- src/told.rt:89:25
-slice-aggregate-put-word-2 : tie.Need-slice-aggregate-put-word-2
-slice-aggregate-put-word-2 c = search needs
-
--- src/told.rt:89:37
-slice-aggregate-put-word-3 : tie.Need-slice-aggregate-put-word-3
-slice-aggregate-put-word-3 c = search needs
-
--- src/told.rt:89:5
-put-word-requires : tie.Need-put-word-requires
-put-word-requires c κs = search needs
-
--- src/told.rt:85:1
 same-length : tie.Need-same-length
 same-length c = search needs
 
--- src/told.rt:85:1
 returns : tie.Need-returns
 unfolding keptText
-returns c = adds-then (c .before .before .before .before .before .before .before .before .before .put-pair .ensures) (c .before .before .put-word .ensures)
+returns c =
+    let lock = c .before .before .before .before .before .before .before .args .lock in
+    rw (eq-eqb lock 0 (c .if1 .taken)) (c .before .before .before .put-pair .ensures)
+
+slice-aggregate-put : tie.Need-slice-aggregate-put
+slice-aggregate-put c = search needs
+
+put-requires : tie.Need-put-requires
+put-requires c κs = tt
+
+same-length-2 : tie.Need-same-length-2
+same-length-2 c = search needs
+
+returns-2 : tie.Need-returns-2
+unfolding keptText
+returns-2 c =
+    let lock = c .before .before .before .before .before .before .before .before .before .before .before .before .args .lock in
+    let all = adds-then (c .before .before .before .before .before .before .before .before .put-pair .ensures) (c .before .before .put .ensures) in
+    rw (ne-eqb lock 0 (c .before .before .before .before .before .if1 .left)) all
 
 pub put-kept-spec : {M : Type 1} → statement M
 put-kept-spec =
     tie.close
     (tie.spec
     put-pair-requires
-    slice-aggregate-put-word
-    slice-aggregate-put-word-2
-    slice-aggregate-put-word-3
-    put-word-requires
     same-length
-    returns)
+    returns
+    slice-aggregate-put
+    put-requires
+    same-length-2
+    returns-2)

@@ -1,48 +1,44 @@
+-- `player::told::put_row` meets its contract: the row is put into a buffer of its own, and added after the name. Assumes nothing.
 use borrow.Author.Needs.{needs}
 use native.Mathlib.Omega.{arith}
 use Rattle.player.proofs.Adding.{adds-then, row-taken, row-length}
-use Rattle.player.proofs.told.put_row.Statement.{statement}
 use Rattle.player.proofs.told.put_row.Tie as tie
-use Rattle.player.proofs.told.put_row.Reads as reads
-use Rattle.player.proofs.told.put_row.Lts as lts
-use Rattle.hex.proofs.put_row.Reads as put-row-reads
-use Rattle.player.proofs.told.put.Reads as put-reads
+use Rattle.player.proofs.told.put_row.Statement.{statement}
 
--- src/told.rt:50:25
 slice-aggregate-put-row : tie.Need-slice-aggregate-put-row
 slice-aggregate-put-row c = search needs
 
--- src/told.rt:50:5
 put-row-requires : tie.Need-put-row-requires
-put-row-requires c κs = search needs
+put-row-requires c κs = tt
 
--- src/told.rt:51:9
 put-requires : tie.Need-put-requires
-put-requires c κs = search needs
+put-requires c κs = tt
 
--- src/told.rt:52:16
 mul-row : tie.Need-mul-row
 mul-row c = search needs
 
--- src/told.rt:52:9
 array-share-prefix-row : tie.Need-array-share-prefix-row
 array-share-prefix-row c = search needs
 
--- src/told.rt:52:9
 slice-aggregate-put : tie.Need-slice-aggregate-put
-slice-aggregate-put c = row-length (c .before .before .before .before .before .before .before .before .before .before .before .args .bytes .now) _ (c .before .before .before .before .before .before .put-row .last .1 .0) (c .before .before .before .before .before .before .put-row .ensures) (omega arith)
+slice-aggregate-put c =
+    let bytes = c .before .before .before .before .before .before .before .before .before .before .before .args .bytes .now in
+    let row = c .before .before .before .before .before .before .put-row in
+    row-length bytes _ (row .last .1 .0) (row .ensures) (omega arith)
 
--- src/told.rt:52:5
 put-requires-2 : tie.Need-put-requires-2
-put-requires-2 c κs = search needs
+put-requires-2 c κs = tt
 
--- src/told.rt:45:1
 same-length : tie.Need-same-length
 same-length c = search needs
 
--- src/told.rt:45:1
 returns : tie.Need-returns
-returns c = adds-then (c .before .before .before .before .before .before .before .put .ensures) (rw (row-taken (c .before .before .before .before .before .before .before .before .before .before .before .before .before .before .before .args .bytes .now) _ (c .before .before .before .before .before .before .before .before .before .before .put-row .last .1 .0) (c .before .before .before .before .before .before .before .before .before .before .put-row .ensures) (omega arith)) at (c .before .before .put2 .ensures))
+returns c =
+    let filled = c .before .before .before .before .before .before .before .before .before .before in
+    let bytes = filled .before .before .before .before .before .args .bytes .now in
+    let row = filled .put-row in
+    let taken = row-taken bytes _ (row .last .1 .0) (row .ensures) (omega arith) in
+    adds-then (c .before .before .before .before .before .before .before .put .ensures) (rw taken at (c .before .before .put2 .ensures))
 
 pub put-row-spec : {M : Type 1} → statement M
 put-row-spec =
