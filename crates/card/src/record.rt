@@ -84,27 +84,18 @@ impl Card {
         held_fits(held)
     }
 
-    // Shape, UID and IC reference stay.
-    fn remade(
-        self,
-        afi: u8,
-        dsfid: u8,
-        afi_locked: bool,
-        dsfid_locked: bool,
-        mode: Mode,
-        sequence: Sequence,
-        held: Held,
-    ) -> Card
-        ensures { λ r. ⌜ r ≡ remade self afi dsfid «afi_locked» «dsfid_locked» mode sequence held ⌝ }
+    // All else stays. The record is made anew: the prover has no rule for a store to a field that is an enum.
+    fn in_state(self, mode: Mode, sequence: Sequence, held: Held) -> Card
+        ensures { λ r. ⌜ r ≡ remade self (self .afi) (self .dsfid) (self .«afi_locked») (self .«dsfid_locked») mode sequence held ⌝ }
     {
         Card {
             blocks: self.blocks,
             size: self.size,
             uid: self.uid,
-            afi: afi,
-            dsfid: dsfid,
-            afi_locked: afi_locked,
-            dsfid_locked: dsfid_locked,
+            afi: self.afi,
+            dsfid: self.dsfid,
+            afi_locked: self.afi_locked,
+            dsfid_locked: self.dsfid_locked,
             ic_reference: self.ic_reference,
             mode: mode,
             sequence: sequence,
@@ -117,17 +108,7 @@ impl Card {
         ensures { λ r. ⌜ r ≡ cleared self ⌝ }
     {
         let kept = self.mode;
-        let sequence = Sequence::Idle;
-        let held = Held::Free;
-        self.remade(
-            self.afi,
-            self.dsfid,
-            self.afi_locked,
-            self.dsfid_locked,
-            kept,
-            sequence,
-            held,
-        )
+        self.in_state(kept, Sequence::Idle, Held::Free)
     }
 
     pub fn in_mode(self, mode: Mode) -> Card
@@ -135,15 +116,7 @@ impl Card {
     {
         let sequence = self.sequence;
         let held = self.held;
-        self.remade(
-            self.afi,
-            self.dsfid,
-            self.afi_locked,
-            self.dsfid_locked,
-            mode,
-            sequence,
-            held,
-        )
+        self.in_state(mode, sequence, held)
     }
 
     pub(crate) fn in_sequence(self, sequence: Sequence) -> Card
@@ -151,15 +124,7 @@ impl Card {
     {
         let mode = self.mode;
         let held = self.held;
-        self.remade(
-            self.afi,
-            self.dsfid,
-            self.afi_locked,
-            self.dsfid_locked,
-            mode,
-            sequence,
-            held,
-        )
+        self.in_state(mode, sequence, held)
     }
 
     pub fn holding(self, held: Held) -> Card
@@ -167,57 +132,31 @@ impl Card {
     {
         let mode = self.mode;
         let sequence = self.sequence;
-        self.remade(
-            self.afi,
-            self.dsfid,
-            self.afi_locked,
-            self.dsfid_locked,
-            mode,
-            sequence,
-            held,
-        )
+        self.in_state(mode, sequence, held)
     }
 
     // AFI and DSFID, each with its lock.
-    pub fn with_afi(self, afi: u8, locked: bool) -> Card
+    pub fn with_afi(mut self, afi: u8, locked: bool) -> Card
         ensures { λ r. ⌜ r ≡ withAfi afi locked self ⌝ }
     {
-        let mode = self.mode;
-        let sequence = self.sequence;
-        let held = self.held;
-        self.remade(
-            afi,
-            self.dsfid,
-            locked,
-            self.dsfid_locked,
-            mode,
-            sequence,
-            held,
-        )
+        self.afi = afi;
+        self.afi_locked = locked;
+        self
     }
 
-    pub fn with_dsfid(self, dsfid: u8, locked: bool) -> Card
+    pub fn with_dsfid(mut self, dsfid: u8, locked: bool) -> Card
         ensures { λ r. ⌜ r ≡ withDsfid dsfid locked self ⌝ }
     {
-        let mode = self.mode;
-        let sequence = self.sequence;
-        let held = self.held;
-        self.remade(
-            self.afi,
-            dsfid,
-            self.afi_locked,
-            locked,
-            mode,
-            sequence,
-            held,
-        )
+        self.dsfid = dsfid;
+        self.dsfid_locked = locked;
+        self
     }
 
     // Power off: what is lost with it.
     pub fn power_off(self) -> Card
         ensures { λ r. ⌜ r ≡ poweredOff self ⌝ }
     {
-        self.cleared().in_mode(Mode::Ready)
+        self.in_state(Mode::Ready, Sequence::Idle, Held::Free)
     }
 }
 
