@@ -10,28 +10,7 @@ use slots::is_below;
 fn shape_fits(blocks: u32, size: u32) -> bool
     ensures { λ r. ⌜ r ≡ shapeFits blocks size ⌝ }
 {
-    if blocks < 1 {
-        return false;
-    }
-    if 256 < blocks {
-        return false;
-    }
-    if size < 1 {
-        return false;
-    }
-    size <= 32
-}
-
-fn running_fits(slot: u8, n: u8, mask: u64) -> bool
-    ensures { λ r. ⌜ r ≡ sequenceFits (Sequence.Running slot n mask) ⌝ }
-{
-    if 15 < slot {
-        return false;
-    }
-    if 60 < n {
-        return false;
-    }
-    is_below(mask, n)
+    (1 <= blocks) & ((blocks <= 256) & ((1 <= size) & (size <= 32)))
 }
 
 fn sequence_fits(sequence: Sequence) -> bool
@@ -39,23 +18,8 @@ fn sequence_fits(sequence: Sequence) -> bool
 {
     match sequence {
         Sequence::Idle => true,
-        Sequence::Running(slot, n, mask) => running_fits(slot, n, mask),
+        Sequence::Running(slot, n, mask) => (slot <= 15) & ((n <= 60) & is_below(mask, n)),
     }
-}
-
-fn code_fits(code: u8) -> bool
-    ensures { λ r. ⌜ r ≡ heldFits (Held.Code code) ⌝ }
-{
-    if code == 0x02 {
-        return true;
-    }
-    if code == 0x10 {
-        return true;
-    }
-    if code == 0x11 {
-        return true;
-    }
-    code == 0x12
 }
 
 fn held_fits(held: Held) -> bool
@@ -64,7 +28,9 @@ fn held_fits(held: Held) -> bool
     match held {
         Held::Free => true,
         Held::Success => true,
-        Held::Code(code) => code_fits(code),
+        Held::Code(code) => {
+            (code == 0x02) | ((code == 0x10) | ((code == 0x11) | (code == 0x12)))
+        }
     }
 }
 
