@@ -1,6 +1,5 @@
 // A frame, from its first test on.
 ghost use mathlib.Core.Path.{_≡_};
-ghost use mathlib.Core.Bool.{_||_};
 ghost use Rattle.card.specs.Frame.{heardInventory};
 use crate::Card;
 use crate::Reply;
@@ -9,12 +8,6 @@ use crate::inventory::inventory;
 use frames::Flags;
 use frames::byte_at;
 
-fn either(a: bool, b: bool) -> bool
-    ensures { λ r. ⌜ r ≡ (a || b) ⌝ }
-{
-    if a { true } else { b }
-}
-
 impl Card {
     // A frame to a card without memory, for a reader that sends inventory requests alone: any other frame only clears.
     pub fn hear_inventory(self, frame: &[u8]) -> Turn
@@ -22,19 +15,7 @@ impl Card {
     {
         let card = self.cleared();
         let f = Flags::of(byte_at(frame, 0));
-        if !frames::is_sound(frame) {
-            return Turn {
-                card: card,
-                reply: Reply::Silence,
-            };
-        }
-        if either(f.b4, f.b8) {
-            return Turn {
-                card: card,
-                reply: Reply::Silence,
-            };
-        }
-        if f.b3 {
+        if frames::is_sound(frame) & (!(f.b4 | f.b8) & f.b3) {
             inventory(card, f, frame)
         } else {
             Turn {

@@ -82,32 +82,17 @@ fn is_inventory(card: Card, f: Flags, frame: &[u8], n: u8) -> bool
     ensures { λ r. ⌜ r ≡ isInventory card f (now (frame .entry)) n ⌝ }
 {
     let mode = card.mode;
-    if f.b7 {
-        return false;
-    }
-    if is_quiet(mode) {
-        return false;
-    }
-    if byte_at(frame, 1) != 0x01 {
-        return false;
-    }
-    if mask_limit(f) < n {
-        return false;
-    }
-    frame.len() == total_length(f, n)
+    let command = byte_at(frame, 1);
+    !f.b7
+        & (!is_quiet(mode)
+            & ((command == 0x01) & ((n <= mask_limit(f)) & (frame.len() == total_length(f, n)))))
 }
 
 pub(crate) fn inventory(card: Card, f: Flags, frame: &[u8]) -> Turn
     ensures { λ r. ⌜ r ≡ inventoried card f (now (frame .entry)) ⌝ }
 {
     let n = byte_at(frame, length_place(f));
-    if !is_inventory(card, f, frame, n) {
-        return Turn {
-            card: card,
-            reply: Reply::Silence,
-        };
-    }
-    if takes_part(card, f, frame) {
+    if is_inventory(card, f, frame, n) & takes_part(card, f, frame) {
         joining(card, f, frame, n)
     } else {
         Turn {

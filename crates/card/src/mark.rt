@@ -1,6 +1,6 @@
 // A slot mark: it releases a held answer, or moves a running sequence.
 ghost use mathlib.Core.Path.{_≡_};
-ghost use Rattle.card.specs.Mark.{moved, released, marked};
+ghost use Rattle.card.specs.Mark.{moved, marked};
 use crate::Card;
 use crate::Held;
 use crate::Reply;
@@ -8,23 +8,6 @@ use crate::Sequence;
 use crate::Turn;
 use crate::inventory::present_if;
 use slots::fits_slot;
-
-fn running_on(card: Card, slot: u8, n: u8, mask: u64) -> Turn
-    ensures { λ r. ⌜ r ≡ moved card (Sequence.Running slot n mask) ⌝ }
-{
-    if slot < 15 {
-        let next = slot + 1;
-        Turn {
-            card: card.in_sequence(Sequence::Running(next, n, mask)),
-            reply: present_if(fits_slot(card.uid, n, mask, next)),
-        }
-    } else {
-        Turn {
-            card: card.in_sequence(Sequence::Idle),
-            reply: Reply::Silence,
-        }
-    }
-}
 
 fn moving(card: Card, sequence: Sequence) -> Turn
     ensures { λ r. ⌜ r ≡ moved card sequence ⌝ }
@@ -34,26 +17,20 @@ fn moving(card: Card, sequence: Sequence) -> Turn
             card: card,
             reply: Reply::Silence,
         },
-        Sequence::Running(slot, n, mask) => running_on(card, slot, n, mask),
-    }
-}
-
-fn release(card: Card, held: Held) -> Turn
-    ensures { λ r. ⌜ r ≡ released card held ⌝ }
-{
-    match held {
-        Held::Free => {
-            let sequence = card.sequence;
-            moving(card, sequence)
+        Sequence::Running(slot, n, mask) => {
+            if slot < 15 {
+                let next = slot + 1;
+                Turn {
+                    card: card.in_sequence(Sequence::Running(next, n, mask)),
+                    reply: present_if(fits_slot(card.uid, n, mask, next)),
+                }
+            } else {
+                Turn {
+                    card: card.in_sequence(Sequence::Idle),
+                    reply: Reply::Silence,
+                }
+            }
         }
-        Held::Success => Turn {
-            card: card.holding(Held::Free),
-            reply: Reply::Done,
-        },
-        Held::Code(code) => Turn {
-            card: card.holding(Held::Free),
-            reply: Reply::Error(code),
-        },
     }
 }
 
@@ -63,6 +40,19 @@ impl Card {
         ensures { λ r. ⌜ r ≡ marked self ⌝ }
     {
         let held = self.held;
-        release(self, held)
+        match held {
+            Held::Free => {
+                let sequence = self.sequence;
+                moving(self, sequence)
+            }
+            Held::Success => Turn {
+                card: self.holding(Held::Free),
+                reply: Reply::Done,
+            },
+            Held::Code(code) => Turn {
+                card: self.holding(Held::Free),
+                reply: Reply::Error(code),
+            },
+        }
     }
 }

@@ -10,28 +10,7 @@ use slots::is_below;
 fn shape_fits(blocks: u32, size: u32) -> bool
     ensures { λ r. ⌜ r ≡ shapeFits blocks size ⌝ }
 {
-    if blocks < 1 {
-        return false;
-    }
-    if 256 < blocks {
-        return false;
-    }
-    if size < 1 {
-        return false;
-    }
-    size <= 32
-}
-
-fn running_fits(slot: u8, n: u8, mask: u64) -> bool
-    ensures { λ r. ⌜ r ≡ sequenceFits (Sequence.Running slot n mask) ⌝ }
-{
-    if 15 < slot {
-        return false;
-    }
-    if 60 < n {
-        return false;
-    }
-    is_below(mask, n)
+    (1 <= blocks) & ((blocks <= 256) & ((1 <= size) & (size <= 32)))
 }
 
 fn sequence_fits(sequence: Sequence) -> bool
@@ -39,23 +18,8 @@ fn sequence_fits(sequence: Sequence) -> bool
 {
     match sequence {
         Sequence::Idle => true,
-        Sequence::Running(slot, n, mask) => running_fits(slot, n, mask),
+        Sequence::Running(slot, n, mask) => (slot <= 15) & ((n <= 60) & is_below(mask, n)),
     }
-}
-
-fn code_fits(code: u8) -> bool
-    ensures { λ r. ⌜ r ≡ heldFits (Held.Code code) ⌝ }
-{
-    if code == 0x02 {
-        return true;
-    }
-    if code == 0x10 {
-        return true;
-    }
-    if code == 0x11 {
-        return true;
-    }
-    code == 0x12
 }
 
 fn held_fits(held: Held) -> bool
@@ -64,7 +28,9 @@ fn held_fits(held: Held) -> bool
     match held {
         Held::Free => true,
         Held::Success => true,
-        Held::Code(code) => code_fits(code),
+        Held::Code(code) => {
+            (code == 0x02) | ((code == 0x10) | ((code == 0x11) | (code == 0x12)))
+        }
     }
 }
 
@@ -84,27 +50,18 @@ impl Card {
         held_fits(held)
     }
 
-    // Shape, UID and IC reference stay.
-    fn remade(
-        self,
-        afi: u8,
-        dsfid: u8,
-        afi_locked: bool,
-        dsfid_locked: bool,
-        mode: Mode,
-        sequence: Sequence,
-        held: Held,
-    ) -> Card
-        ensures { λ r. ⌜ r ≡ remade self afi dsfid «afi_locked» «dsfid_locked» mode sequence held ⌝ }
+    // All else stays. The record is made anew: the prover has no rule for a store to a field that is an enum.
+    fn in_state(self, mode: Mode, sequence: Sequence, held: Held) -> Card
+        ensures { λ r. ⌜ r ≡ remade self (self .afi) (self .dsfid) (self .«afi_locked») (self .«dsfid_locked») mode sequence held ⌝ }
     {
         Card {
             blocks: self.blocks,
             size: self.size,
             uid: self.uid,
-            afi: afi,
-            dsfid: dsfid,
-            afi_locked: afi_locked,
-            dsfid_locked: dsfid_locked,
+            afi: self.afi,
+            dsfid: self.dsfid,
+            afi_locked: self.afi_locked,
+            dsfid_locked: self.dsfid_locked,
             ic_reference: self.ic_reference,
             mode: mode,
             sequence: sequence,
@@ -117,17 +74,7 @@ impl Card {
         ensures { λ r. ⌜ r ≡ cleared self ⌝ }
     {
         let kept = self.mode;
-        let sequence = Sequence::Idle;
-        let held = Held::Free;
-        self.remade(
-            self.afi,
-            self.dsfid,
-            self.afi_locked,
-            self.dsfid_locked,
-            kept,
-            sequence,
-            held,
-        )
+        self.in_state(kept, Sequence::Idle, Held::Free)
     }
 
     pub fn in_mode(self, mode: Mode) -> Card
@@ -135,15 +82,7 @@ impl Card {
     {
         let sequence = self.sequence;
         let held = self.held;
-        self.remade(
-            self.afi,
-            self.dsfid,
-            self.afi_locked,
-            self.dsfid_locked,
-            mode,
-            sequence,
-            held,
-        )
+        self.in_state(mode, sequence, held)
     }
 
     pub(crate) fn in_sequence(self, sequence: Sequence) -> Card
@@ -151,15 +90,7 @@ impl Card {
     {
         let mode = self.mode;
         let held = self.held;
-        self.remade(
-            self.afi,
-            self.dsfid,
-            self.afi_locked,
-            self.dsfid_locked,
-            mode,
-            sequence,
-            held,
-        )
+        self.in_state(mode, sequence, held)
     }
 
     pub fn holding(self, held: Held) -> Card
@@ -167,57 +98,31 @@ impl Card {
     {
         let mode = self.mode;
         let sequence = self.sequence;
-        self.remade(
-            self.afi,
-            self.dsfid,
-            self.afi_locked,
-            self.dsfid_locked,
-            mode,
-            sequence,
-            held,
-        )
+        self.in_state(mode, sequence, held)
     }
 
     // AFI and DSFID, each with its lock.
-    pub fn with_afi(self, afi: u8, locked: bool) -> Card
+    pub fn with_afi(mut self, afi: u8, locked: bool) -> Card
         ensures { λ r. ⌜ r ≡ withAfi afi locked self ⌝ }
     {
-        let mode = self.mode;
-        let sequence = self.sequence;
-        let held = self.held;
-        self.remade(
-            afi,
-            self.dsfid,
-            locked,
-            self.dsfid_locked,
-            mode,
-            sequence,
-            held,
-        )
+        self.afi = afi;
+        self.afi_locked = locked;
+        self
     }
 
-    pub fn with_dsfid(self, dsfid: u8, locked: bool) -> Card
+    pub fn with_dsfid(mut self, dsfid: u8, locked: bool) -> Card
         ensures { λ r. ⌜ r ≡ withDsfid dsfid locked self ⌝ }
     {
-        let mode = self.mode;
-        let sequence = self.sequence;
-        let held = self.held;
-        self.remade(
-            self.afi,
-            dsfid,
-            self.afi_locked,
-            locked,
-            mode,
-            sequence,
-            held,
-        )
+        self.dsfid = dsfid;
+        self.dsfid_locked = locked;
+        self
     }
 
     // Power off: what is lost with it.
     pub fn power_off(self) -> Card
         ensures { λ r. ⌜ r ≡ poweredOff self ⌝ }
     {
-        self.cleared().in_mode(Mode::Ready)
+        self.in_state(Mode::Ready, Sequence::Idle, Held::Free)
     }
 }
 

@@ -1,15 +1,12 @@
--- `card::Card::with_dsfid` meets its contract: one way to make the record anew. Assumes nothing.
-use borrow.Author.Needs.{needs}
-use Rattle.card.specs.Record.{withDsfid}
+-- `card::Card::with_dsfid` meets its contract: the two fields are stored. Assumes nothing.
+use mathlib.Core.Path.{refl}
+use Rattle.card.specs.Record.{remade, withDsfid}
 use Rattle.card.proofs.Card.with_dsfid.Statement.{statement}
 use Rattle.card.proofs.Card.with_dsfid.Tie as tie
 
-remade-requires : tie.Need-remade-requires
-remade-requires c κs = search needs
-
 returns : tie.Need-returns
-unfolding withDsfid
-returns c = c .remade .ensures
+unfolding remade withDsfid
+returns c = refl
 
 pub with-dsfid-spec : {M : Type 1} → statement M
-with-dsfid-spec = tie.close (tie.spec remade-requires returns)
+with-dsfid-spec = tie.close (tie.spec returns)

@@ -1,8 +1,5 @@
--- `card::inventory::inventory` meets its contract: the definition goes by the same two tests. Assumes nothing.
+-- `card::inventory::inventory` meets its contract: the definition has the same two tests. Assumes nothing.
 use borrow.Author.Needs.{needs}
-use borrow.Author.Tests.{not-true, not-false}
-use mathlib.Core.Path.{sym, _∙_}
-use mathlib.Core.Bool.{true, false}
 use Rattle.card.specs.Inventory.{inventoried}
 use Rattle.card.proofs.inventory.inventory.Statement.{statement}
 use Rattle.card.proofs.inventory.inventory.Tie as tie
@@ -16,57 +13,32 @@ byte-at-requires c κs = search needs
 is-inventory-requires : tie.Need-is-inventory-requires
 is-inventory-requires c κs = search needs
 
-returns : tie.Need-returns
-unfolding inventoried
-returns c =
-    let length-place = c .before .before .before .length-place in
-    let byte-at = c .before .before .byte-at in
-    let is-inventory = c .before .is-inventory in
-    let first = c .if1 in
-    rw (← (length-place .ensures), ← (byte-at .ensures), ← (is-inventory .ensures), not-true (is-inventory .result) (first .taken))
-
 takes-part-requires : tie.Need-takes-part-requires
 takes-part-requires c κs = search needs
 
 joining-requires : tie.Need-joining-requires
 joining-requires c κs = search needs
 
-returns-2 : tie.Need-returns-2
+returns : tie.Need-returns
 unfolding inventoried
-returns-2 c =
-    let length-place = c .before .before .before .before .before .before .length-place in
-    let byte-at = c .before .before .before .before .before .byte-at in
-    let is-inventory = c .before .before .before .before .is-inventory in
-    let first = c .before .before .before .if1 in
-    let takes-part = c .before .before .takes-part in
-    let second = c .before .if2 in
-    let joining = c .joining in
-    rw (
-      ← (length-place .ensures),
-      ← (byte-at .ensures),
-      ← (is-inventory .ensures),
-      not-false (is-inventory .result) (first .left),
-      ← (takes-part .ensures),
-      second .taken,
-    ) (joining .ensures)
-
-returns-3 : tie.Need-returns-3
-unfolding inventoried
-returns-3 c =
+returns c =
     let length-place = c .before .before .before .before .before .length-place in
     let byte-at = c .before .before .before .before .byte-at in
     let is-inventory = c .before .before .before .is-inventory in
-    let first = c .before .before .if1 in
+    let takes-part = c .before .before .takes-part in
+    let first = c .before .if1 in
+    let joining = c .joining in
+    rw (← (length-place .ensures), ← (byte-at .ensures), ← (is-inventory .ensures), ← (takes-part .ensures), first .taken) (joining .ensures)
+
+returns-2 : tie.Need-returns-2
+unfolding inventoried
+returns-2 c =
+    let length-place = c .before .before .before .before .length-place in
+    let byte-at = c .before .before .before .byte-at in
+    let is-inventory = c .before .before .is-inventory in
     let takes-part = c .before .takes-part in
-    let second = c .if2 in
-    rw (
-      ← (length-place .ensures),
-      ← (byte-at .ensures),
-      ← (is-inventory .ensures),
-      not-false (is-inventory .result) (first .left),
-      ← (takes-part .ensures),
-      second .left,
-    )
+    let first = c .if1 in
+    rw (← (length-place .ensures), ← (byte-at .ensures), ← (is-inventory .ensures), ← (takes-part .ensures), first .left)
 
 pub inventory-spec : {M : Type 1} → statement M
 inventory-spec =
@@ -75,8 +47,7 @@ inventory-spec =
     length-place-requires
     byte-at-requires
     is-inventory-requires
-    returns
     takes-part-requires
     joining-requires
-    returns-2
-    returns-3)
+    returns
+    returns-2)

@@ -13,9 +13,6 @@ enum-told-2 c = search needs
 enum-known-held : tie.Need-enum-known-held
 enum-known-held c = search needs
 
-code-fits-requires : tie.Need-code-fits-requires
-code-fits-requires c κs = search needs
-
 returns : tie.Need-returns
 unfolding heldFits
 returns c = rw (c .enum-told .given .1)
@@ -26,9 +23,8 @@ returns-2 c = rw (c .enum-told2 .given .1)
 
 returns-3 : tie.Need-returns-3
 unfolding heldFits
-returns-3 c = rw (c .before .before .held .given .1) (c .code-fits .ensures)
+returns-3 c = rw (c .before .held .given .1)
 
 pub held-fits-spec : {M : Type 1} → statement M
 held-fits-spec =
-    tie.close
-    (tie.spec enum-told enum-told-2 enum-known-held code-fits-requires returns returns-2 returns-3)
+    tie.close (tie.spec enum-told enum-told-2 enum-known-held returns returns-2 returns-3)

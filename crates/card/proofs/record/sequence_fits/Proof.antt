@@ -10,8 +10,8 @@ enum-told c = search needs
 enum-known-sequence : tie.Need-enum-known-sequence
 enum-known-sequence c = search needs
 
-running-fits-requires : tie.Need-running-fits-requires
-running-fits-requires c κs = search needs
+is-below-requires : tie.Need-is-below-requires
+is-below-requires c κs = search needs
 
 returns : tie.Need-returns
 unfolding sequenceFits
@@ -19,8 +19,8 @@ returns c = rw (c .enum-told .given .1)
 
 returns-2 : tie.Need-returns-2
 unfolding sequenceFits
-returns-2 c = rw (c .before .before .sequence .given .1) (c .running-fits .ensures)
+returns-2 c = rw (c .before .before .sequence .given .1, c .is-below .ensures)
 
 pub sequence-fits-spec : {M : Type 1} → statement M
 sequence-fits-spec =
-    tie.close (tie.spec enum-told enum-known-sequence running-fits-requires returns returns-2)
+    tie.close (tie.spec enum-told enum-known-sequence is-below-requires returns returns-2)
