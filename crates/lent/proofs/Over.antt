@@ -40,6 +40,15 @@ pub placed-start : (s e : List ℕ) → placed 0 s e ≡ over s e
 unfolding over placed
 placed-start s e = rw zero-add
 
+-- straight-line stores at the start
+pub sets-over : (s e : List ℕ) → length s ≤ length e → sets e 0 s ≡ over s e
+sets-over s e h = sets-placed 0 s e (omega arith) ∙ placed-start s e
+
+-- bytes placed right after those at the start
+pub over-placed : (n : ℕ) (s v e : List ℕ) → length s ≡ n → placed n v (over s e) ≡ over (s ++ v) e
+unfolding over placed
+over-placed n s v e is = rw (← is, take-append-seam, drop-append-add, drop-drop, length-append)
+
 -- bytes placed right after the bytes s
 pub placed-placed : (at : ℕ) (s v e : List ℕ) → at + length s + length v ≤ length e
     → placed (at + length s) v (placed at s e) ≡ placed at (s ++ v) e

@@ -7,7 +7,7 @@ use lib.ListN.{length, set, length-append}
 use lib.IntN.{ℤ}
 use lib.Seq.{sets}
 use Rattle.lent.specs.Lent.{over, placed}
-use Rattle.lent.proofs.Over.{sets-placed, placed-start, placed-placed, length-over}
+use Rattle.lent.proofs.Over.{sets-placed, sets-over, over-placed, length-over}
 use Rattle.frames.specs.Field.{fieldBytes, PutsField}
 use Rattle.frames.proofs.Fields.{length-field-bytes}
 use Rattle.frames.proofs.Ways.{puts-served}
@@ -16,19 +16,9 @@ use Rattle.card.specs.declared.Card.{Card}
 use Rattle.play.specs.Answer.{information, presence}
 use Rattle.lent.specs.Puts.{Puts}
 
--- straight-line stores at the start
-pub sets-over : (s e : List ℕ) → length s ≤ length e → sets e 0 s ≡ over s e
-sets-over s e h = sets-placed 0 s e (omega arith) ∙ placed-start s e
-
--- bytes placed after those at the start
-pub over-placed : (n : ℕ) (s v e : List ℕ) → length s ≡ n → n + length v ≤ length e → placed n v (over s e) ≡ over (s ++ v) e
-over-placed n s v e is h =
-    let place : 0 + length s ≡ n = omega arith in
-    rw (← placed-start s e, ← placed-start (s ++ v) e, ← place) (placed-placed 0 s v e (omega arith))
-
 -- the first byte, and bytes after it
 pub first-placed : (b : ℕ) (v e : List ℕ) → 1 + length v ≤ length e → placed 1 v (set e 0 b) ≡ over (b ∷ v) e
-first-placed b v e h = rw (sets-over (b ∷ []) e (omega arith)) (over-placed 1 (b ∷ []) v e refl h)
+first-placed b v e h = rw (sets-over (b ∷ []) e (omega arith)) (over-placed 1 (b ∷ []) v e refl)
 
 -- bytes that stores at the start make
 pub puts-sets : (s e : List ℕ) → length s ≤ length e → Puts s e (length s) (sets e 0 s)
@@ -43,9 +33,8 @@ field-over : (s e : List ℕ) {left : List ℕ} {at value : ℕ} {r : ℤ} → P
     → left ≡ over (s ++ fieldBytes 8 value) e
 field-over s e {left} {at} {value} puts is h =
     let same : length (over s e) ≡ length e = length-over s e (omega arith) in
-    let n : length (fieldBytes 8 value) ≡ 8 = length-field-bytes 8 value in
     put-field-unique puts (puts-served (over s e) at 8 value (rw same h)) .1
-    ∙ over-placed at s (fieldBytes 8 value) e is (omega arith)
+    ∙ over-placed at s (fieldBytes 8 value) e is
 
 pub length-presence : (c : Card) → length (presence c) ≡ 9
 unfolding presence
@@ -86,5 +75,5 @@ puts-information c e {left} puts h =
     record {
       count = sym (ap suc (length-information c));
       leaves =
-          ap (λ (t : List ℕ). sets t 10 v) front ∙ sets-placed 10 v (over (s ++ f) e) (rw same h) ∙ over-placed 10 (s ++ f) v e ten h;
+          ap (λ (t : List ℕ). sets t 10 v) front ∙ sets-placed 10 v (over (s ++ f) e) (rw same h) ∙ over-placed 10 (s ++ f) v e ten;
     }

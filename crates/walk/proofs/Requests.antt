@@ -8,10 +8,10 @@ use native.Mathlib.Omega.{arith}
 use borrow.Author.Tests.{ltb-true}
 use lib.IntN.{ℤ}
 use lib.ListN.{length, take, set, length-append, length-set}
-use lib.Seq.{sets, set-comm, append-snoc}
+use lib.Seq.{set-comm, append-snoc}
 use Rattle.lent.specs.Lent.{over, placed}
 use Rattle.lent.specs.Puts.{Puts}
-use Rattle.lent.proofs.Over.{sets-placed, placed-start, placed-placed, set-placed, length-over, over-over, take-over}
+use Rattle.lent.proofs.Over.{sets-over, placed-start, placed-placed, set-placed, length-over, over-over, take-over}
 use Rattle.crc.specs.Check.{checkBytes, sealed}
 use Rattle.crc.proofs.Seal.{length-sealed}
 use Rattle.frames.specs.Field.{fieldBytes, PutsField}
@@ -29,10 +29,6 @@ pub length-puts : {s e left : List ℕ} {r : ℕ} → Puts s e r left → length
 length-puts {s} {e} puts h = ap length (puts .leaves) ∙ length-over s e h
 
 -- ---- the head
-
--- straight-line stores at the start
-sets-over : (s e : List ℕ) → length s ≤ length e → sets e 0 s ≡ over s e
-sets-over s e h = sets-placed 0 s e (omega arith) ∙ placed-start s e
 
 pub family-is-byte : (w : Walk) → hasFamily w ≡ true → w .family < 256
 unfolding hasFamily
