@@ -1,10 +1,10 @@
 -- 01's examples of inventory requests, by computation and by the tests of the definitions. Assumes nothing.
 use mathlib.Core.Path.{_≡_, refl, sym, ap, _∙_}
-use mathlib.Core.Bool.{Bool, true, false, cond, _&&_}
-use mathlib.Core.List.{List, [], _∷_}
+use mathlib.Core.Bool.{Bool, true, false, _&&_}
+use mathlib.Core.List.{List, _∷_}
 use Prim.Native.Nat.{ℕ, _/_, _%_, _^_}
 use borrow.Author.Tests.{eq-eqb}
-use lib.Dec.{eqb, leb, ltb}
+use lib.Dec.{eqb, leb}
 use lib.ListN.{getD}
 use lib.Pow.{mod-mod-pow, field}
 use Rattle.frames.specs.declared.Flags.{Flags}

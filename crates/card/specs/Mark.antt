@@ -1,6 +1,6 @@
 -- 01, The card: "A slot mark releases it and changes nothing else; with none held it moves a running sequence to the next slot (after slot 15
 -- it ends), answering if the slot matches; else silence."
-use Prim.Native.Nat.{ℕ, _+_}
+use Prim.Native.Nat.{_+_}
 use mathlib.Core.Bool.{cond}
 use lib.Dec.{ltb}
 use Rattle.slots.specs.Fits.{fitsSlot}

@@ -1,8 +1,6 @@
 -- 01's examples of the check, by computation. Assumes nothing.
 use mathlib.Core.Path.{_≡_, refl}
-use mathlib.Core.List.{List, [], _∷_}
-use Prim.Native.Nat.{ℕ}
-use lib.Bits.{bitXor, bitwise, digits}
+use mathlib.Core.List.{[], _∷_}
 use Rattle.crc.specs.Check.{shifted, shifts, taken, register, checkOf, checkBytes}
 
 -- 01, Examples: "the byte 00 has check F078, sent 78 F0", "no bytes, check 0000"

@@ -2,7 +2,7 @@
 -- By the places of the last two bytes. Assumes nothing.
 use mathlib.Core.Path.{_≡_, refl, sym, ap, ap₂, _∙_}
 use mathlib.Core.Bool.{true, false, _&&_, and-eq-true-iff}
-use Prim.Native.Nat.{ℕ, zero, suc, _+_, _-_, _*_, _/_, _%_, _≤_, _<_}
+use Prim.Native.Nat.{ℕ, suc, _+_, _-_, _*_, _/_, _%_, _≤_, _<_}
 use native.Mathlib.Decide.{ℕ-discrete}
 use native.Mathlib.Omega.{arith}
 use mathlib.Core.List.{List, [], _∷_, _++_}
@@ -10,7 +10,7 @@ use borrow.Author.Tests.{eq-eqb, ne-eqb, eqb-true, le-leb, leb-true}
 use lib.Dec.{leb, eqb}
 use lib.ListN.{length, getD, take, drop, length-append, take-append-drop, drop-of-length-le}
 use lib.Seq.{take-append-seam, getD-append-seam, getD-append-add, drop-cons}
-use Rattle.crc.specs.Check.{register, checkOf, checkBytes, sealed, isCheck, isSealed}
+use Rattle.crc.specs.Check.{checkOf, checkBytes, sealed, isCheck, isSealed}
 
 -- a check fits sixteen bits
 pub check-fits : (m : List ℕ) → checkOf m ≤ 65535

@@ -1,6 +1,6 @@
 -- A frame is sound exactly if it is a message with its check appended, of 4 to 64 bytes in all. By the tests of the definition.
 -- Assumes nothing.
-use mathlib.Core.Path.{_≡_, refl, sym}
+use mathlib.Core.Path.{_≡_}
 use mathlib.Core.Bool.{true, _&&_, and-eq-true-iff}
 use Prim.Native.Nat.{ℕ, _+_, _-_, _≤_}
 use mathlib.Core.List.{List}

@@ -1,20 +1,18 @@
 -- Laws of rows: a pair more is read or put, what stores make of a buffer, and the ways out of `read_row` and `put_row`.
 -- Assumes nothing.
-use mathlib.Core.Path.{_≡_, refl, sym, ap, _∙_}
-use mathlib.Core.Bool.{Bool, true, false, cond, _&&_}
-use mathlib.Core.List.{List, [], _∷_, _++_, append-assoc}
-use Prim.Native.Nat.{ℕ, zero, suc, _+_, _-_, _*_, _/_, _%_, _≤_, _<_}
-use native.Mathlib.Nat.{mod-eq-of-lt, add-assoc, add-suc}
+use mathlib.Core.Path.{_≡_, refl, ap, _∙_}
+use mathlib.Core.Bool.{true, false, _&&_}
+use mathlib.Core.List.{List, [], _∷_}
+use Prim.Native.Nat.{ℕ, suc, _+_, _-_, _*_, _/_, _≤_, _<_}
 use native.Mathlib.Numerals.{add-one, towards-suc}
 use native.Mathlib.Omega.{arith}
-use borrow.Author.Tests.{le-leb, lt-leb, eq-eqb, ne-eqb}
-use lib.Dec.{eqb, ltb}
+use borrow.Author.Tests.{le-leb, lt-leb}
 use lib.IntN.{pos}
-use lib.ListN.{length, take, drop, getD, set, length-set, length-drop}
+use lib.ListN.{length, drop, getD, set, length-set, length-drop}
 use lib.Seq.{drop-cons, drop-length, take-suc-set, drop-set-lt, append-snoc}
-use Rattle.lent.specs.Lent.{over, placed, refused}
+use Rattle.lent.specs.Lent.{placed, refused}
 use Rattle.lent.proofs.Over.{placed-none, placed-start}
-use Rattle.hex.specs.Digits.{digitOf, isDigit, digit, hexDigits}
+use Rattle.hex.specs.Digits.{digit, hexDigits}
 use Rattle.hex.specs.Rows.{isPair, isRow, pairOf, rowBytes, rowText, readAnswer, readLeaves, ReadsRow, putAnswer, putLeaves, PutsRow}
 
 -- ---- reading

@@ -17,7 +17,7 @@ use Rattle.walk.proofs.Limits.{Accepted, accepted-of-is-accepted}
 use Rattle.row.specs.declared.Air.{Air}
 use Rattle.row.specs.declared.Desk.{Desk}
 use Rattle.picture.specs.Drawn.{sign, roundShown, tailShown, lineHead, slotDrawn, twinsLine}
-use Rattle.picture.proofs.Placing.{puts-none, puts-then}
+use Rattle.lent.proofs.Puts.{puts-none, puts-then}
 use Rattle.picture.proofs.Lengths.{sign-most}
 
 -- ---- before slot 0

@@ -17,7 +17,8 @@ use Rattle.row.specs.Play.{noUids, mostSlots, ended}
 use Rattle.row.proofs.SlotsAlike.{benchOf}
 use Rattle.row.proofs.Meaning.{tagsOf, tags-obey, tags-answer, freshField, bench-is-a-field}
 use Rattle.lines.proofs.Examples.{threeLines, three-fit, three-read}
-use Rattle.rack.specs.Output.{digit, decimal, hexDigits}
+use Rattle.hex.specs.Digits.{digit, hexDigits}
+use Rattle.rack.specs.Output.{decimal}
 use Rattle.rack.specs.Bench.{printed}
 use Rattle.rack.proofs.Examples.{threePrinted, bench}
 use Rattle.picture.specs.Drawn.{roundShown, tailShown, lineHead, heading, twinsLine, drawn, pictured}

@@ -1,5 +1,4 @@
 mod Pieces
-mod Placing
 mod Lengths
 mod Adding
 mod Moves

@@ -1,25 +1,18 @@
--- The pieces of a line, byte by byte: a digit, a round's number, and each place of a tail. By the tests of the definitions, and by induction over
--- the digits of a mask. Assumes nothing.
+-- The pieces of a line, byte by byte: a round's number, and each place of a tail. By the tests of the definitions, and by the place of a digit.
+-- Assumes nothing.
 use mathlib.Core.Path.{_≡_, refl, sym, ap, _∙_}
-use Prim.Native.Nat.{ℕ, zero, suc, _+_, _-_, _*_, _/_, _%_, _^_, _≤_, _<_}
+use Prim.Native.Nat.{ℕ, _+_, _-_, _*_, _/_, _%_, _^_, _≤_, _<_}
 use native.Mathlib.Nat.{zero-add}
 use native.Mathlib.Numerals.{add-one}
 use native.Mathlib.Omega.{arith}
 use mathlib.Core.List.{List, [], _∷_, _++_}
 use borrow.Author.Tests.{lt-ltb, le-ltb}
 use lib.ListN.{length, getD, set, replicate, length-append, length-replicate, getD-replicate, List·getD-append}
-use lib.Pow.{shr-shr}
-use lib.Seq.{getD-at, getD-append-add, paste, paste-zero, paste-suc, take-all}
-use Rattle.rack.specs.Output.{digit, decimal, hexDigits}
+use lib.Seq.{getD-append-add, paste, paste-zero, paste-suc, take-all}
+use Rattle.hex.specs.Digits.{digit, hexDigits}
+use Rattle.hex.proofs.Digits.{length-hex-digits, hex-digit-at}
+use Rattle.rack.specs.Output.{decimal}
 use Rattle.picture.specs.Drawn.{roundShown, tailShown}
-
-pub digit-decimal : (d : ℕ) → d < 10 → 0x30 + d ≡ digit d
-unfolding digit
-digit-decimal d h = rw (lt-ltb d 10 h)
-
-pub digit-letter : (d : ℕ) → 10 ≤ d → 0x41 + (d - 10) ≡ digit d
-unfolding digit
-digit-letter d h = rw (le-ltb d 10 h) (omega arith)
 
 -- ---- a round's number
 
@@ -39,24 +32,6 @@ round-3 n h p q r = rw (le-ltb n 10 (omega arith), le-ltb n 100 h, p, q, r) refl
 
 -- ---- a place of a tail
 
-length-hex : (n u : ℕ) → length (hexDigits n u) ≡ n
-unfolding hexDigits
-length-hex zero u = refl
-length-hex (suc n) u = rw (length-append, length-hex n (u / 16)) (omega arith)
-
--- the digit at place j of n: as many digits stand after it
-hex-at : (n j k u : ℕ) → j + suc k ≡ n → getD (hexDigits n u) j 0 ≡ digit (u / 2 ^ (4 * k) % 16)
-unfolding hexDigits
-hex-at zero j k u e = absurd (omega arith)
-hex-at (suc n) j zero u e =
-    let all : u % 16 ≡ u / 1 % 16 = omega arith in
-    getD-at (hexDigits n (u / 16)) (digit (u % 16)) [] 0 j (length-hex n (u / 16) ∙ omega arith) ∙ ap digit all
-hex-at (suc n) j (suc k) u e =
-    let inside : j < length (hexDigits n (u / 16)) = rw length-hex (omega arith) in
-    let more : 4 + 4 * k ≡ 4 * suc k = omega arith in
-    List·getD-append (hexDigits n (u / 16)) (digit (u % 16) ∷ []) 0 j inside ∙ hex-at n j k (u / 16) (omega arith)
-    ∙ ap (λ (v : ℕ). digit (v % 16)) (shr-shr u 4 (4 * k) ∙ ap (λ (i : ℕ). u / 2 ^ i) more)
-
 pub free-place : (level mask i : ℕ) → i + level < 16 → 0x2d ≡ getD (tailShown level mask) i 0
 unfolding tailShown
 free-place level mask i h =
@@ -64,21 +39,21 @@ free-place level mask i h =
     let inside : i < length free = rw length-replicate (omega arith) in
     sym (List·getD-append free (hexDigits level mask) 0 i inside ∙ getD-replicate (16 - level) i 0x2d 0 (omega arith))
 
-pub mask-place : (level mask i : ℕ) {d : ℕ} → level ≤ 16 → i < 16 → 16 ≤ i + level → d ≡ digit (mask / 2 ^ (60 - 4 * i) % 16)
+pub mask-place : (level mask i : ℕ) {d : ℕ} → level ≤ 16 → i < 16 → 16 ≤ i + level → d ≡ digit (mask / 2 ^ (60 - 4 * i))
     → d ≡ getD (tailShown level mask) i 0
 unfolding tailShown
 mask-place level mask i few h k is =
     let free : List ℕ = replicate (16 - level) 0x2d in
     let place : length free + (i - (16 - level)) ≡ i = rw length-replicate (omega arith) in
     let after : 4 * (15 - i) ≡ 60 - 4 * i = omega arith in
-    is ∙ ap (λ (j : ℕ). digit (mask / 2 ^ j % 16)) (sym after)
-    ∙ sym (hex-at level (i - (16 - level)) (15 - i) mask (omega arith))
+    is ∙ ap (λ (j : ℕ). digit (mask / 2 ^ j)) (sym after)
+    ∙ sym (hex-digit-at level (i - (16 - level)) (15 - i) mask (omega arith))
     ∙ sym (getD-append-add free (hexDigits level mask) (i - (16 - level)) 0)
     ∙ ap (λ (j : ℕ). getD (free ++ hexDigits level mask) j 0) place
 
 pub length-tail : (level mask : ℕ) → level ≤ 16 → length (tailShown level mask) ≡ 16
 unfolding tailShown
-length-tail level mask h = rw (length-append, length-replicate, length-hex) (omega arith)
+length-tail level mask h = rw (length-append, length-replicate, length-hex-digits) (omega arith)
 
 -- ---- the places of a tail, one after the other, over an array d
 

@@ -16,7 +16,7 @@ use Rattle.row.specs.declared.Slotted.{Slotted}
 use Rattle.row.specs.Row.{Played, playedFor, cardsOf}
 use Rattle.row.specs.Play.{freshDesk, slotted, mostSlots, goesOn, ended}
 use Rattle.picture.specs.Drawn.{slotDrawn, drawnFor, heading, twinsLine, drawn}
-use Rattle.picture.proofs.Placing.{puts-none, puts-then, puts-start}
+use Rattle.lent.proofs.Puts.{puts-none, puts-then, puts-start}
 use Rattle.picture.proofs.Moves.{Fit}
 use Rattle.picture.proofs.Most.{none-drawn, walk-most}
 use Rattle.picture.proofs.OneSlot.{playOf, take-cards, slot-of-first, played-ended, slot-drawn, slotted-fit}

@@ -1,6 +1,6 @@
 -- The ways out of the picture: room short, a wrong line, the walk drawn and what is printed after it. By what reading finds.
 -- Assumes nothing.
-use mathlib.Core.Path.{_≡_, refl, sym, ap, subst, _∙_}
+use mathlib.Core.Path.{_≡_, refl, sym, ap, _∙_}
 use Prim.Native.Nat.{ℕ, _+_, _≤_, _<_}
 use mathlib.Core.List.{List, _++_}
 use borrow.Author.Tests.{lt-leb, le-leb, eq-eqb, ne-eqb}

@@ -6,8 +6,8 @@ ghost use Prim.Native.Nat.{_<_, _≤_};
 ghost use lib.Dec.{eqb};
 ghost use lib.ListN.{getD};
 ghost use Rattle.walk.specs.Record.{isRunning};
-ghost use Rattle.rack.specs.Output.{digit};
 ghost use Rattle.picture.specs.Drawn.{sign, roundShown, tailShown};
+use hex::digit;
 use row::Air;
 use walk::Walk;
 
@@ -32,18 +32,6 @@ pub(crate) fn ends_line(walk: Walk, next: Walk) -> bool
         true
     } else {
         next.ending != 0
-    }
-}
-
-// The byte of a digit, upper-case.
-fn digit(d: u64) -> u8
-    requires { ⌜ d < 16 ⌝ }
-    ensures { λ r. ⌜ r ≡ digit d ⌝ }
-{
-    if d < 10 {
-        b'0' + (d as u8)
-    } else {
-        b'A' + ((d - 10) as u8)
     }
 }
 
@@ -78,7 +66,7 @@ fn tail_byte(level: usize, mask: u64, i: usize) -> u8
         return b'-';
     }
     let shift = 60 - 4 * i;
-    digit((mask >> shift) % 16)
+    digit(mask >> shift)
 }
 
 // A tail and the byte after it.

@@ -1,5 +1,4 @@
 // A frame, a slot mark, power off.
-ghost use mathlib.Core.Path.{_≡_};
 ghost use Prim.Native.Nat.{_+_, _≤_};
 ghost use lib.ListN.{length};
 ghost use Rattle.play.specs.Fits.{DeedReady};

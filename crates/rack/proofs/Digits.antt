@@ -1,29 +1,23 @@
 -- Digits: a number in decimal is spelled by one, two or three of them, a UID by sixteen, the highest first. By the tests of the definitions.
 -- Assumes nothing.
-use mathlib.Core.Path.{_≡_, refl, ap}
+use mathlib.Core.Path.{_≡_, ap}
 use mathlib.Core.Bool.{Bool, true, false, cond}
-use Prim.Native.Nat.{ℕ, zero, suc, _+_, _-_, _*_, _/_, _%_, _^_, _≤_, _<_}
+use Prim.Native.Nat.{ℕ, _+_, _-_, _*_, _/_, _%_, _^_, _≤_, _<_}
 use native.Mathlib.Nat.{add-zero}
 use native.Mathlib.Numerals.{add-one}
 use native.Mathlib.Omega.{arith}
 use mathlib.Core.List.{List, [], _∷_, _++_}
 use borrow.Author.Tests.{lt-ltb, le-ltb}
 use lib.Dec.{ltb, eqb}
-use lib.ListN.{length, set, length-append}
+use lib.ListN.{length, set}
 use lib.Pow.{shr-shr}
 use Rattle.lent.specs.Puts.{PutsAt}
-use Rattle.rack.specs.Output.{word, digit, decimal, Spells, hexDigits}
-use Rattle.rack.proofs.Putting.{puts-none, puts-more}
+use Rattle.hex.specs.Digits.{digit, hexDigits}
+use Rattle.hex.proofs.Digits.{length-hex-digits}
+use Rattle.rack.specs.Output.{word, decimal, Spells}
+use Rattle.lent.proofs.Puts.{puts-none, puts-more}
 
 -- ---- decimal
-
-pub digit-decimal : (d : ℕ) → d < 10 → 0x30 + d ≡ digit d
-unfolding digit
-digit-decimal d h = rw (lt-ltb d 10 h)
-
-pub digit-letter : (d : ℕ) → 10 ≤ d → 0x41 + (d - 10) ≡ digit d
-unfolding digit
-digit-letter d h = rw (le-ltb d 10 h) (omega arith)
 
 pub spells-1 : (n u : ℕ) → n < 10 → u ≡ digit (n % 10) → Spells (decimal n) (record { bytes = u ∷ 0 ∷ 0 ∷ 0 ∷ 0 ∷ 0 ∷ 0 ∷ 0 ∷ []; count = 1 })
 unfolding decimal
@@ -62,20 +56,15 @@ length-word ending =
 
 -- ---- hex digits, the highest first
 
-pub length-hex : (n u : ℕ) → length (hexDigits n u) ≡ n
-unfolding hexDigits
-length-hex zero u = refl
-length-hex (suc n) u = rw (length-append, length-hex n (u / 16)) (omega arith)
-
 -- i digits so far: those of the number without its low 16 - i
 unfoldable pub topDigits : ℕ → ℕ → List ℕ
 topDigits i u = hexDigits i (u / 2 ^ (64 - 4 * i))
 
 pub length-top : (i u : ℕ) → length (topDigits i u) ≡ i
 unfolding topDigits
-length-top i u = length-hex i (u / 2 ^ (64 - 4 * i))
+length-top i u = length-hex-digits i (u / 2 ^ (64 - 4 * i))
 
-pub top-more : (i u : ℕ) → i < 16 → topDigits (i + 1) u ≡ topDigits i u ++ digit (u / 2 ^ (60 - 4 * i) % 16) ∷ []
+pub top-more : (i u : ℕ) → i < 16 → topDigits (i + 1) u ≡ topDigits i u ++ digit (u / 2 ^ (60 - 4 * i)) ∷ []
 unfolding topDigits hexDigits
 top-more i u h =
     let here : 64 - 4 * (i + 1) ≡ 60 - 4 * i = omega arith in
@@ -87,7 +76,7 @@ unfolding topDigits hexDigits
 top-puts-none at u e = rw add-zero (puts-none at e)
 
 pub top-puts-more : {at : ℕ} {e f : List ℕ} (i u d : ℕ) → PutsAt at (topDigits i u) e (at + i) f → i < 16 → at + i < length e
-    → d ≡ digit (u / 2 ^ (60 - 4 * i) % 16) → PutsAt at (topDigits (i + 1) u) e (at + (i + 1)) (set f (at + i) d)
+    → d ≡ digit (u / 2 ^ (60 - 4 * i)) → PutsAt at (topDigits (i + 1) u) e (at + (i + 1)) (set f (at + i) d)
 top-puts-more {at} {e} {f} i u d p h k is =
     let one : at + (i + 1) ≡ at + i + 1 = omega arith in
     rw (one, top-more i u h, ← is) (puts-more d p (rw length-top k))

@@ -15,7 +15,8 @@ use Rattle.row.specs.Play.{noUids, mostSlots, ended}
 use Rattle.row.proofs.SlotsAlike.{benchOf}
 use Rattle.row.proofs.Meaning.{tagsOf, tags-obey, tags-answer, freshField, bench-is-a-field}
 use Rattle.lines.proofs.Examples.{threeLines, ThreeRead, three-fit, three-read, three-read-ended}
-use Rattle.rack.specs.Output.{word, digit, decimal, hexDigits, uidLines, verdictLine, heading, report}
+use Rattle.hex.specs.Digits.{digit, hexDigits}
+use Rattle.rack.specs.Output.{word, decimal, uidLines, verdictLine, heading, report}
 use Rattle.rack.specs.Bench.{printed}
 
 -- "it prints, whole": verdict complete, rounds 2, cards 3, and the three UIDs

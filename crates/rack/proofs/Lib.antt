@@ -1,5 +1,4 @@
 pub mod InputMeaning
-mod Putting
 mod Digits
 mod Printed
 mod BenchWays

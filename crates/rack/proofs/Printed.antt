@@ -11,16 +11,18 @@ use Rattle.lent.specs.Puts.{Puts, PutsAt}
 use Rattle.walk.specs.declared.Walk.{Walk}
 use Rattle.row.specs.declared.Desk.{Desk}
 use Rattle.rack.specs.declared.output.Piece.{Piece}
-use Rattle.rack.specs.Output.{decimal, Spells, hexDigits, uidLines, verdictLine, heading, report}
-use Rattle.rack.proofs.Putting.{puts-none, puts-then, puts-more, puts-start}
-use Rattle.rack.proofs.Digits.{length-decimal, length-hex}
+use Rattle.rack.specs.Output.{decimal, Spells, uidLines, verdictLine, heading, report}
+use Rattle.lent.proofs.Puts.{puts-none, puts-then, puts-more, puts-start}
+use Rattle.hex.specs.Digits.{hexDigits}
+use Rattle.hex.proofs.Digits.{length-hex-digits}
+use Rattle.rack.proofs.Digits.{length-decimal}
 
 -- ---- the lines of a list
 
 pub length-lines : (us : List ℕ) → length (uidLines us) ≡ 17 * length us
 unfolding uidLines
 length-lines [] = refl
-length-lines (u ∷ us) = rw (length-append, length-hex 16 u, length-lines us) (omega arith)
+length-lines (u ∷ us) = rw (length-append, length-hex-digits 16 u, length-lines us) (omega arith)
 
 lines-append : (xs ys : List ℕ) → uidLines (xs ++ ys) ≡ uidLines xs ++ uidLines ys
 unfolding uidLines
@@ -42,7 +44,7 @@ pub lines-puts-more : {at m : ℕ} {e f g : List ℕ} (list : List ℕ) (i : ℕ
     → PutsAt (at + 17 * i) (hexDigits 16 (getD list i 0)) f m g → i < length list → length f ≡ length e → at + 17 * i + 17 ≤ length e
     → PutsAt at (uidLines (take (i + 1) list)) e (at + 17 * (i + 1)) (set g m 0x0a)
 lines-puts-more {at} {m} {e} {f} {g} list i p q h same k =
-    let digits : length (hexDigits 16 (getD list i 0)) ≡ 16 = length-hex 16 (getD list i 0) in
+    let digits : length (hexDigits 16 (getD list i 0)) ≡ 16 = length-hex-digits 16 (getD list i 0) in
     let end : m ≡ at + 17 * i + length (hexDigits 16 (getD list i 0)) = q .next in
     let next : at + 17 * (i + 1) ≡ m + 1 = omega arith in
     let line : length (hexDigits 16 (getD list i 0) ++ 0x0a ∷ []) ≡ length (hexDigits 16 (getD list i 0)) + 1 =

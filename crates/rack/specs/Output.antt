@@ -1,10 +1,11 @@
 -- 01, Bench: what is printed, byte for byte.
-use Prim.Native.Nat.{ℕ, zero, suc, _+_, _/_, _%_, _≤_}
+use Prim.Native.Nat.{ℕ, _/_, _%_, _≤_}
 use mathlib.Core.Path.{_≡_}
 use mathlib.Core.Bool.{cond}
 use mathlib.Core.List.{List, [], _∷_, _++_}
 use lib.Dec.{ltb, eqb}
 use lib.ListN.{length, take}
+use Rattle.hex.specs.Digits.{digit, hexDigits}
 use Rattle.walk.specs.declared.Walk.{Walk}
 use Rattle.walk.specs.Record.{complete, twins, full}
 use Rattle.row.specs.declared.Desk.{Desk}
@@ -18,10 +19,6 @@ word ending =
     (cond (eqb ending full) (0x66 ∷ 0x75 ∷ 0x6c ∷ 0x6c ∷ [])
     (0x6f ∷ 0x76 ∷ 0x65 ∷ 0x72 ∷ 0x72 ∷ 0x75 ∷ 0x6e ∷ [])))
 
--- the byte of a digit, upper-case
-unfoldable pub digit : ℕ → ℕ
-digit d = cond (ltb d 10) (0x30 + d) (0x37 + d)
-
 -- a number below 1000 in decimal
 unfoldable pub decimal : ℕ → List ℕ
 decimal n =
@@ -32,11 +29,6 @@ decimal n =
 pub record Spells (s : List ℕ) (r : Piece) : Type 0 where
   pub few : r .count ≤ length (r .bytes)
   pub first : take (r .count) (r .bytes) ≡ s
-
--- the low n digits of a number, the highest first
-unfoldable pub hexDigits : ℕ → ℕ → List ℕ
-hexDigits zero u = []
-hexDigits (suc n) u = hexDigits n (u / 16) ++ digit (u % 16) ∷ []
 
 -- a UID a line
 unfoldable pub uidLines : List ℕ → List ℕ

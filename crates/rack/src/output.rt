@@ -6,7 +6,9 @@ ghost use Prim.Native.Nat.{_+_, _*_, _<_, _≤_};
 ghost use lib.ListN.{length, take};
 ghost use Rattle.lent.specs.Puts.{Puts, PutsAt};
 ghost use Rattle.walk.specs.Record.{isAccepted};
-ghost use Rattle.rack.specs.Output.{word, digit, decimal, Spells, hexDigits, uidLines, verdictLine, heading, report, complaint};
+ghost use Rattle.hex.specs.Digits.{hexDigits};
+ghost use Rattle.rack.specs.Output.{word, decimal, Spells, uidLines, verdictLine, heading, report, complaint};
+use hex::digit;
 use row::Desk;
 use walk::Walk;
 
@@ -27,18 +29,6 @@ fn put_bytes(bytes: &[u8], out: &mut [u8], at: usize) -> usize
         i += 1;
     }
     at + i
-}
-
-// The byte of a digit, upper-case.
-fn digit(d: u64) -> u8
-    requires { ⌜ d < 16 ⌝ }
-    ensures { λ r. ⌜ r ≡ digit d ⌝ }
-{
-    if d < 10 {
-        b'0' + (d as u8)
-    } else {
-        b'A' + ((d - 10) as u8)
-    }
 }
 
 // The word for an ending.
@@ -112,7 +102,7 @@ fn put_uid(uid: u64, out: &mut [u8], at: usize) -> usize
     let mut i = 0;
     while i < 16 {
         let shift = 60 - 4 * i;
-        out[at + i] = digit((uid >> shift) % 16);
+        out[at + i] = digit(uid >> shift);
         i += 1;
     }
     at + 16

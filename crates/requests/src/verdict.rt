@@ -1,6 +1,6 @@
 // What a request comes to, said without the record; and the record after it.
 ghost use mathlib.Core.Path.{_≡_};
-ghost use mathlib.Core.Bool.{true, false};
+ghost use mathlib.Core.Bool.{false};
 ghost use Rattle.requests.specs.Verdict.{verdict, changed, kept, made};
 use crate::Deed;
 use crate::Effect;

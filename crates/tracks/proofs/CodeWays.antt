@@ -1,6 +1,5 @@
 -- The ways out of the coder, in 01's order: 7 for the frame, 7 for the coding, 8, served. By the tests of its definition.
 -- Assumes nothing.
-use mathlib.Core.Path.{_≡_, refl}
 use Prim.Native.Nat.{ℕ, _≤_, _<_}
 use mathlib.Core.List.{List}
 use borrow.Author.Tests.{le-leb, lt-leb, lt-ltb, le-ltb}

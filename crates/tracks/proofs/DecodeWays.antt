@@ -1,6 +1,6 @@
 -- The ways out of the decoder, in 01's order: 8, slot mark, a frame in either coding, 9. By the tests of its definition.
 -- Assumes nothing.
-use mathlib.Core.Path.{_≡_, refl}
+use mathlib.Core.Path.{_≡_}
 use mathlib.Core.Bool.{true, false}
 use Prim.Native.Nat.{ℕ, _≤_, _<_}
 use mathlib.Core.List.{List}

@@ -1,17 +1,17 @@
 -- The decoder's call and the coder's are inverse to each other: correct, complete, and nothing else is read.
 -- From the laws of RoundTrip.antt and the ways out. Assumes nothing.
 use mathlib.Core.Path.{_≡_, refl, sym, ap, _∙_}
-use mathlib.Core.Bool.{Bool, true, false, _&&_, and-eq-true-iff, false≢true}
-use Prim.Native.Nat.{ℕ, zero, suc, _+_, _≤_, _<_}
+use mathlib.Core.Bool.{Bool, true, false, and-eq-true-iff, false≢true}
+use Prim.Native.Nat.{ℕ, zero, suc, _≤_, _<_}
 use native.Mathlib.Omega.{arith}
-use mathlib.Core.List.{List, [], _∷_, _++_}
+use mathlib.Core.List.{List, [], _∷_}
 use borrow.Author.Tests.{eqb-true, ne-eqb}
 use lib.Dec.{eqb}
 use lib.ListN.{length, getD}
 use Rattle.lent.specs.Lent.{over, refused}
 use Rattle.frames.specs.Frame.{longest}
-use Rattle.tracks.specs.Track.{start, end, trackOf, trackLength, slotMark}
-use Rattle.tracks.specs.Decoder.{countOf, isTrack, frameOf, isSlotMark, told, decodeAnswer, decodeLeaves, Decodes}
+use Rattle.tracks.specs.Track.{start, end, trackOf, slotMark}
+use Rattle.tracks.specs.Decoder.{countOf, isTrack, frameOf, isSlotMark, told, Decodes}
 use Rattle.tracks.proofs.Units.{length-track}
 use Rattle.tracks.proofs.Parts.{parts-of-track}
 use Rattle.tracks.proofs.DecodeWays.{decodes-mark, decodes-of-4, decodes-of-256, decodes-no-track}

@@ -1,21 +1,20 @@
 -- Coder and decoder are inverse to each other, to the byte: what was coded is read back, what is read is what the coder makes of
 -- that frame, and nothing else is read. By the units of a track, one after the other. Assumes nothing.
 use mathlib.Core.Path.{_≡_, refl, sym, ap, ap₂, _∙_}
-use mathlib.Core.Bool.{Bool, true, false, cond, _&&_, and-eq-true-iff}
-use Prim.Native.Nat.{ℕ, zero, suc, _+_, _-_, _*_, _/_, _≤_, _<_}
-use native.Mathlib.Nat.{mul-zero, mul-div-cancel-left, add-sub-cancel-left}
+use mathlib.Core.Bool.{true, and-eq-true-iff}
+use Prim.Native.Nat.{ℕ, zero, suc, _+_, _-_, _*_, _≤_, _<_}
+use native.Mathlib.Nat.{mul-zero, mul-div-cancel-left}
 use native.Mathlib.Omega.{arith}
 use mathlib.Core.List.{List, [], _∷_, _++_, append-assoc}
 use lib.Dec.{ltb}
-use borrow.Author.Tests.{lt-ltb, ltb-true, le-leb, eq-eqb, ne-eqb}
-use lib.ListN.{length, getD, take, drop, length-append, length-drop, take-append-drop, drop-of-length-le}
+use borrow.Author.Tests.{lt-ltb, ltb-true}
+use lib.ListN.{length, getD, take, drop, length-drop, take-append-drop, drop-of-length-le}
 use lib.Seq.{take-at, drop-at, drop-drop, length-take-le, drop-cons, getD-at}
-use Rattle.lent.specs.Lent.{over, refused}
 use Rattle.frames.specs.Frame.{longest}
-use Rattle.tracks.specs.Track.{start, end, coded, unit, pulses, trackOf, trackLength, slotMark}
-use Rattle.tracks.specs.Decoder.{byteOf, areBytes, bytesOf, countOf, isTrack, frameOf, isSlotMark, told, decodeAnswer, decodeLeaves}
+use Rattle.tracks.specs.Track.{start, end, coded, unit, pulses, trackOf, trackLength}
+use Rattle.tracks.specs.Decoder.{byteOf, areBytes, bytesOf, countOf, isTrack, frameOf}
 use Rattle.tracks.proofs.Units.{length-coded, length-pulses, length-track, unit-least}
-use Rattle.tracks.proofs.Bytes.{are-bytes-next, length-bytes-of}
+use Rattle.tracks.proofs.Bytes.{length-bytes-of}
 use Rattle.tracks.proofs.Coded.{byte-of-coded, coded-of-byte}
 use Rattle.tracks.proofs.Parts.{Parts, parts-of-track, track-of-parts}
 

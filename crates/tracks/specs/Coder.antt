@@ -1,5 +1,5 @@
 -- 01, Pulse tracks and Numbers of refused calls: what the coder answers and leaves. Order: 7, 8.
-use Prim.Native.Nat.{ℕ, _+_}
+use Prim.Native.Nat.{ℕ}
 use mathlib.Core.Bool.{Bool, cond, _&&_}
 use mathlib.Core.List.{List}
 use mathlib.Core.Path.{_≡_}

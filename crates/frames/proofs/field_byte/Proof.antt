@@ -1,6 +1,5 @@
 -- `frames::field_byte` meets its contract: past the field or the frame the byte is 0. Assumes nothing.
 use borrow.Author.Needs.{needs}
-use mathlib.Core.Path.{sym}
 use borrow.Author.Tests.{le-ltb, lt-ltb}
 use native.Mathlib.Omega.{arith}
 use lib.ListN.{List·getD-eq-default}

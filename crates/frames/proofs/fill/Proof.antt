@@ -2,7 +2,7 @@
 -- The measure is what is left of the count. Assumes nothing.
 use native.Mathlib.Omega.{arith}
 use mathlib.Core.Path.{_≡_, refl, sym, ap, _∙_}
-use Prim.Native.Nat.{ℕ, _+_, _-_, _/_, _≤_}
+use Prim.Native.Nat.{ℕ, _-_, _/_, _≤_}
 use native.Mathlib.Numerals.{add-one}
 use mathlib.Core.List.{List}
 use lib.ListN.{length, length-set}

@@ -2,8 +2,7 @@
 -- Assumes nothing.
 use native.Mathlib.Omega.{arith}
 use mathlib.Core.Path.{_≡_, refl, _∙_, ap}
-use Prim.Native.Nat.{ℕ, _+_, _-_, _≤_}
-use lib.ListN.{getD}
+use Prim.Native.Nat.{_-_, _≤_}
 use Rattle.hex.specs.Digits.{digitOf, digitsAt, numberAt}
 use Rattle.hex.proofs.Digits.{number-suc}
 use Rattle.hex.proofs.number.Statement.{statement}

@@ -4,7 +4,7 @@ use native.Mathlib.Omega.{arith}
 use mathlib.Core.Path.{_≡_, refl, sym, _∙_}
 use mir.Syntax.{w64}
 use mir.ValLaws.{toZ-pos}
-use Prim.Native.Nat.{_+_, _-_, _*_, _/_, _≤_}
+use Prim.Native.Nat.{_-_, _*_, _/_, _≤_}
 use lib.ListN.{length, drop, length-set}
 use Rattle.lent.specs.Lent.{placed}
 use Rattle.hex.specs.Rows.{rowBytes}

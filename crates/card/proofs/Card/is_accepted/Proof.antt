@@ -1,7 +1,6 @@
 -- `card::Card::is_accepted` meets its contract: the definition goes by the same three tests. Assumes nothing.
 use borrow.Author.Needs.{needs}
 use borrow.Author.Tests.{not-true, not-false}
-use mathlib.Core.Path.{sym, _∙_}
 use Rattle.card.specs.Record.{isAccepted}
 use Rattle.card.proofs.Card.is_accepted.Statement.{statement}
 use Rattle.card.proofs.Card.is_accepted.Tie as tie

@@ -1,22 +1,23 @@
 -- `picture::drawing::put` meets its contract. The loop's invariant: the first i bytes stand there. The measure is what is left of them.
 -- Assumes nothing.
-use mathlib.Core.Path.{_≡_, refl}
-use Prim.Native.Nat.{_-_, _≤_}
 use native.Mathlib.Omega.{arith}
-use lib.ListN.{length, length-set}
-use lib.Seq.{paste, paste-zero}
-use Rattle.picture.proofs.Placing.{copied-more, copied-all}
+use mathlib.Core.Path.{_≡_, refl}
+use Prim.Native.Nat.{_+_, _-_, _≤_}
+use lib.ListN.{length, take, length-set}
+use lib.Seq.{take-all}
+use Rattle.lent.specs.Puts.{PutsAt}
+use Rattle.lent.proofs.Puts.{copied-none, copied-more}
 use Rattle.picture.proofs.drawing.put.Statement.{statement}
 use Rattle.picture.proofs.drawing.put.Tie as tie
 
 abbrev Inv-loop : tie.InvT-loop
-Inv-loop bytes out₀ at i₀ out i = (i ≤ length bytes) × (length out ≡ length out₀) × (out ≡ paste out₀ at bytes i)
+Inv-loop bytes out₀ at i₀ out i = (i ≤ length bytes) × (length out ≡ length out₀) × PutsAt at (take i bytes) out₀ (at + i) out
 
 abbrev μ-loop : tie.MeasureT-loop
 μ-loop bytes out₀ at i₀ out i = length bytes - i
 
 loop-holds : tie.Need-loop-holds Inv-loop μ-loop
-loop-holds c = (omega arith, refl, paste-zero _ (c .args .at) (c .args .bytes .now))
+loop-holds c = (omega arith, refl, copied-none _ (c .args .bytes .now) _)
 
 shared-slice-read-out : tie.Need-shared-slice-read-out Inv-loop μ-loop
 shared-slice-read-out c = omega arith
@@ -36,7 +37,8 @@ loop-less c = omega arith
 loop-again : tie.Need-loop-again Inv-loop μ-loop
 loop-again c =
     let loop = c .before .before .loop in
-    (omega arith, simp length-set (loop .inv .1), copied-more _ _ _ (loop .i) (loop .inv .2) (omega arith) (omega arith))
+    let args = c .before .before .before .args in
+    (omega arith, simp length-set (loop .inv .1), copied-more (args .bytes .now) (loop .i) (loop .inv .2) (omega arith) (omega arith))
 
 add-result : tie.Need-add-result Inv-loop μ-loop
 add-result c = omega arith
@@ -45,7 +47,10 @@ same-length : tie.Need-same-length Inv-loop μ-loop
 same-length c = omega arith
 
 returns : tie.Need-returns Inv-loop μ-loop
-returns c = copied-all _ _ _ (c .before .loop .i) (c .before .loop .inv .2) (omega arith)
+returns c =
+    let loop = c .before .loop in
+    let args = c .before .before .args in
+    rw (← (take-all (loop .i) (args .bytes .now) (omega arith))) (loop .inv .2)
 
 pub put-spec : {M : Type 1} → statement M
 put-spec =

@@ -2,7 +2,7 @@
 use native.Mathlib.Omega.{arith}
 use borrow.Author.Needs.{needs}
 use lib.ListN.{length-set}
-use Rattle.picture.proofs.Placing.{puts-byte, puts-bytes}
+use Rattle.lent.proofs.Puts.{puts-byte, puts-bytes}
 use Rattle.picture.proofs.drawing.put_sign.Statement.{statement}
 use Rattle.picture.proofs.drawing.put_sign.Tie as tie
 

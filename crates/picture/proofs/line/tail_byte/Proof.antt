@@ -21,7 +21,7 @@ shr-digit : tie.Need-shr-digit
 shr-digit c = search needs
 
 digit-requires : tie.Need-digit-requires
-digit-requires c κs = search needs
+digit-requires c κs = tt
 
 returns-2 : tie.Need-returns-2
 returns-2 c = mask-place _ _ _ (omega arith) (omega arith) (omega arith) (c .digit .ensures)

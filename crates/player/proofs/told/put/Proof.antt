@@ -2,7 +2,7 @@
 -- Assumes nothing.
 use native.Mathlib.Omega.{arith}
 use mathlib.Core.Path.{_≡_, refl}
-use Prim.Native.Nat.{_+_, _-_, _≤_}
+use Prim.Native.Nat.{_-_, _≤_}
 use lib.ListN.{length, take, length-set}
 use Rattle.lent.specs.Lent.{placed}
 use Rattle.player.proofs.Adding.{copied-none, copied-more, copied-all}

@@ -1,18 +1,17 @@
 -- `rack::output::decimal` meets its contract: one, two or three digits, by the tests of the number. Assumes nothing.
-use borrow.Author.Needs.{needs}
 use native.Mathlib.Omega.{arith}
 use Rattle.rack.proofs.Digits.{spells-1, spells-2, spells-3}
 use Rattle.rack.proofs.output.decimal.Statement.{statement}
 use Rattle.rack.proofs.output.decimal.Tie as tie
 
 digit-requires : tie.Need-digit-requires
-digit-requires c κs = search needs
+digit-requires c κs = tt
 
 digit-requires-2 : tie.Need-digit-requires-2
-digit-requires-2 c κs = search needs
+digit-requires-2 c κs = tt
 
 digit-requires-3 : tie.Need-digit-requires-3
-digit-requires-3 c κs = search needs
+digit-requires-3 c κs = tt
 
 returns : tie.Need-returns
 returns c = spells-1 _ _ (omega arith) (c .before .before .before .digit .ensures)

@@ -6,7 +6,7 @@ use Prim.Native.Nat.{_+_, _-_, _≤_}
 use lib.ListN.{length, take, length-set}
 use lib.Seq.{take-all}
 use Rattle.lent.specs.Puts.{PutsAt}
-use Rattle.rack.proofs.Putting.{copied-none, copied-more}
+use Rattle.lent.proofs.Puts.{copied-none, copied-more}
 use Rattle.rack.proofs.output.put_bytes.Statement.{statement}
 use Rattle.rack.proofs.output.put_bytes.Tie as tie
 

@@ -2,7 +2,7 @@
 use borrow.Author.Needs.{needs}
 use native.Mathlib.Omega.{arith}
 use Rattle.rack.specs.Output.{complaint}
-use Rattle.rack.proofs.Putting.{puts-then, puts-start}
+use Rattle.lent.proofs.Puts.{puts-then, puts-start}
 use Rattle.rack.proofs.output.put_complaint.Statement.{statement}
 use Rattle.rack.proofs.output.put_complaint.Tie as tie
 

@@ -8,7 +8,7 @@ use borrow.Kind.Array.{eInt, good-length}
 use lib.ListN.{length, take, getD, length-set}
 use Rattle.lent.specs.Puts.{PutsAt}
 use Rattle.rack.specs.Output.{uidLines}
-use Rattle.rack.proofs.Putting.{length-puts}
+use Rattle.lent.proofs.Puts.{length-puts}
 use Rattle.rack.proofs.Digits.{length-hex}
 use Rattle.rack.proofs.Printed.{lines-puts-none, lines-puts-more}
 use Rattle.rack.proofs.output.put_list.Statement.{statement}

@@ -3,7 +3,7 @@ use borrow.Author.Needs.{needs}
 use native.Mathlib.Omega.{arith}
 use Rattle.rack.proofs.Printed.{spelled-length, puts-spelled, named-end}
 use Rattle.rack.proofs.Digits.{length-decimal}
-use Rattle.rack.proofs.Putting.{puts-then}
+use Rattle.lent.proofs.Puts.{puts-then}
 use Rattle.rack.proofs.output.put_named.Statement.{statement}
 use Rattle.rack.proofs.output.put_named.Tie as tie
 

@@ -28,7 +28,7 @@ shr-digit : tie.Need-shr-digit Inv-loop μ-loop
 shr-digit c = omega arith
 
 digit-requires : tie.Need-digit-requires Inv-loop μ-loop
-digit-requires c κs = omega arith
+digit-requires c κs = tt
 
 add-out : tie.Need-add-out Inv-loop μ-loop
 add-out c = omega arith

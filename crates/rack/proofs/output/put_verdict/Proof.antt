@@ -4,7 +4,7 @@ use native.Mathlib.Omega.{arith}
 use Rattle.rack.specs.Output.{verdictLine}
 use Rattle.rack.proofs.Printed.{spelled-length, puts-spelled}
 use Rattle.rack.proofs.Digits.{length-word}
-use Rattle.rack.proofs.Putting.{puts-then}
+use Rattle.lent.proofs.Puts.{puts-then}
 use Rattle.rack.proofs.output.put_verdict.Statement.{statement}
 use Rattle.rack.proofs.output.put_verdict.Tie as tie
 

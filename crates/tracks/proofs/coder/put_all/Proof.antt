@@ -2,12 +2,12 @@
 -- The measure is what is left of the frame. Assumes nothing.
 use native.Mathlib.Omega.{arith}
 use borrow.Author.Needs.{needs}
-use mathlib.Core.Path.{_≡_, refl, sym, ap, _∙_}
-use Prim.Native.Nat.{ℕ, _+_, _-_, _*_, _≤_}
+use mathlib.Core.Path.{_≡_, refl, sym}
+use Prim.Native.Nat.{_+_, _-_, _*_, _≤_}
 use native.Mathlib.Nat.{mul-zero}
 use lib.ListN.{length, take}
 use lib.Seq.{take-all}
-use Rattle.tracks.proofs.Units.{unit-room, unit-next, placed-pulses-suc}
+use Rattle.tracks.proofs.Units.{unit-room, placed-pulses-suc}
 use Rattle.tracks.specs.Track.{unit, pulses}
 use Rattle.lent.proofs.Over.{placed-none}
 use Rattle.lent.specs.Lent.{placed}

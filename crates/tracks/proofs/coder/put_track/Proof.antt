@@ -1,7 +1,7 @@
 -- `tracks::coder::put_track` meets its contract: start, units and end make the track. Assumes nothing.
 use borrow.Author.Needs.{needs}
 use native.Mathlib.Omega.{arith}
-use lib.ListN.{length, length-set}
+use lib.ListN.{length-set}
 use Prim.Native.Nat.{_-_}
 use Rattle.tracks.specs.Track.{trackOf}
 use Rattle.tracks.proofs.Units.{placed-track, length-pulses}

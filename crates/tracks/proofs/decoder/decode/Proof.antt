@@ -2,7 +2,7 @@
 use borrow.Author.Needs.{needs}
 use native.Mathlib.Omega.{arith}
 use mathlib.Core.Path.{sym, _∙_}
-use Prim.Native.Nat.{_+_, _≤_, _<_}
+use Prim.Native.Nat.{_+_}
 use mir.ValLaws.{toZ-pos}
 use mir.Syntax.{w64}
 use native.Mathlib.Nat.{zero-add}

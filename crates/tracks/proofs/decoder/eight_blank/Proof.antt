@@ -2,7 +2,7 @@
 -- other are 00 only if each is. Assumes nothing.
 use native.Mathlib.Omega.{arith}
 use mathlib.Core.Path.{_≡_, refl}
-use Prim.Native.Nat.{ℕ, _+_, _-_, _≤_}
+use Prim.Native.Nat.{_+_, _-_, _≤_}
 use lib.ListN.{getD}
 use borrow.Author.Tests.{eqb-true}
 use native.Mathlib.Numerals.{add-one}

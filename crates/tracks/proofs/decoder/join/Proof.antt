@@ -1,6 +1,5 @@
 -- `tracks::decoder::join` meets its contract: the definition goes by the same four tests. Assumes nothing.
-use mathlib.Core.Path.{_≡_}
-use mathlib.Core.Bool.{true, and-assoc}
+use mathlib.Core.Bool.{and-assoc}
 use native.Mathlib.Omega.{arith}
 use Rattle.tracks.specs.Decoder.{joined}
 use Rattle.tracks.proofs.decoder.join.Statement.{statement}

@@ -2,14 +2,14 @@
 -- The measure is what is left of the units. Assumes nothing.
 use native.Mathlib.Omega.{arith}
 use borrow.Author.Needs.{needs}
-use mathlib.Core.Path.{_≡_, refl, sym, _∙_, ap}
+use mathlib.Core.Path.{_≡_, refl, sym, _∙_}
 use mathlib.Core.Bool.{true}
-use Prim.Native.Nat.{ℕ, _+_, _-_, _*_, _≤_}
-use lib.ListN.{length, take, drop, length-set}
+use Prim.Native.Nat.{_+_, _-_, _*_, _≤_}
+use lib.ListN.{length, drop, length-set}
 use native.Mathlib.Nat.{mul-zero, sub-zero}
 use Rattle.tracks.proofs.Units.{unit-room}
 use Rattle.tracks.proofs.Bytes.{are-bytes-next, placed-bytes-suc}
-use Rattle.tracks.specs.Decoder.{byteOf, areBytes, bytesOf}
+use Rattle.tracks.specs.Decoder.{areBytes, bytesOf}
 use Rattle.tracks.specs.Track.{unit}
 use Rattle.lent.proofs.Over.{placed-none, placed-start}
 use Rattle.lent.specs.Lent.{placed}

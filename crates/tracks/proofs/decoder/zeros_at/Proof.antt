@@ -3,8 +3,8 @@
 use borrow.Author.Needs.{needs}
 use native.Mathlib.Omega.{arith}
 use mathlib.Core.Path.{_≡_}
-use Prim.Native.Nat.{ℕ, _+_, _-_, _≤_}
-use lib.ListN.{length, take, drop}
+use Prim.Native.Nat.{_+_, _-_, _≤_}
+use lib.ListN.{take, drop}
 use Rattle.tracks.proofs.Zeros.{zeros-more, zeros-done, zeros-none}
 use Rattle.tracks.specs.Decoder.{zeros}
 use Rattle.tracks.proofs.decoder.zeros_at.Statement.{statement}

@@ -1,5 +1,4 @@
 -- `tracks::pulse::unit_of` meets its contract: by the coding. Assumes nothing.
-use mathlib.Core.Path.{refl}
 use borrow.Author.Tests.{eq-eqb, ne-eqb}
 use Rattle.tracks.specs.Track.{unit}
 use Rattle.tracks.proofs.pulse.unit_of.Statement.{statement}

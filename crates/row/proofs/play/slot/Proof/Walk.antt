@@ -1,7 +1,7 @@
 -- The MIR of `slot`: the row is cut at m and lent, comes back and is made whole, and the walk hears what is in the air.
 -- Assumes `Given`, and that each function called meets its contract.
 use mathlib.Core.Path.{_≡_, refl, sym, ap, subst, _∙_}
-use Prim.Native.Nat.{ℕ, _+_, _<_, _^_}
+use Prim.Native.Nat.{ℕ, _<_, _^_}
 use mathlib.Core.List.{[], _∷_, List, _++_}
 use lib.ListN.{length, take, drop as past}
 use borrow.Table.Elements.{at}
