@@ -9,7 +9,7 @@ use lib.ListN.{length, take, getD, length-set}
 use Rattle.lent.specs.Puts.{PutsAt}
 use Rattle.rack.specs.Output.{uidLines}
 use Rattle.lent.proofs.Puts.{length-puts}
-use Rattle.rack.proofs.Digits.{length-hex}
+use Rattle.hex.proofs.Digits.{length-hex-digits}
 use Rattle.rack.proofs.Printed.{lines-puts-none, lines-puts-more}
 use Rattle.rack.proofs.output.put_list.Statement.{statement}
 use Rattle.rack.proofs.output.put_list.Tie as tie
@@ -43,7 +43,7 @@ slice-write-out c =
     let put-uid = c .before .before .put-uid in
     let loop = c .before .before .before .before .before .loop in
     let args = c .before .before .before .before .before .before .before .args in
-    let digits = length-hex 16 (getD (args .t1) (loop .i) 0) in
+    let digits = length-hex-digits 16 (getD (args .t1) (loop .i) 0) in
     let same = length-puts (put-uid .ensures) (omega (arith, digits)) in
     omega (arith, same, digits, put-uid .ensures .next)
 
@@ -59,7 +59,7 @@ loop-again c =
     let loop = c .before .before .before .before .before .loop in
     let args = c .before .before .before .before .before .before .before .args in
     let places = good-length (eInt w64) 64 (args .t1) _ (c .before .before .before .before .before .before .before .good .0) in
-    let digits = length-hex 16 (getD (args .t1) (loop .i) 0) in
+    let digits = length-hex-digits 16 (getD (args .t1) (loop .i) 0) in
     let same = length-puts (put-uid .ensures) (omega (arith, digits)) in (
       omega arith,
       simp length-set (same ∙ loop .inv .1),
