@@ -56,9 +56,9 @@ test:
 
 # The archive must stand: `make lib` makes it.
 compare:
-	BOARD_LIB_DIR='$(CURDIR)/target/staticlib' CARGO_TARGET_DIR='$(CURDIR)/target/independent' \
+	RUSTC="$$(command -v rustc)" BOARD_LIB_DIR='$(CURDIR)/target/staticlib' CARGO_TARGET_DIR='$(CURDIR)/target/independent' \
 	    cargo build --quiet --release --offline --manifest-path independent/Cargo.toml
-	BOARD_LIB_DIR='$(CURDIR)/target/staticlib' CARGO_TARGET_DIR='$(CURDIR)/target/independent' \
+	RUSTC="$$(command -v rustc)" BOARD_LIB_DIR='$(CURDIR)/target/staticlib' CARGO_TARGET_DIR='$(CURDIR)/target/independent' \
 	    cargo test --quiet --release --offline --manifest-path independent/Cargo.toml
 	VECTORS_DIR='$(CURDIR)/vectors' target/independent/release/comparison
 

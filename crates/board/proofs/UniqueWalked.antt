@@ -5,13 +5,9 @@ use mathlib.Core.List.{List}
 use Prim.Native.Nat.{ℕ}
 use lib.IntN.{ℤ}
 use Rattle.walk.specs.declared.Walk.{Walk}
-use Rattle.walk.specs.Record.{started}
 use Rattle.walk.specs.Hear.{Hearing}
 use Rattle.walk.specs.Ask.{Asking}
 use Rattle.board.specs.Walked.{HearsInPlace, AsksInPlace}
-
-pub start-in-place-unique : (family : ℕ) (walk walk′ : Walk) → walk ≡ started family → walk′ ≡ started family → walk ≡ walk′
-start-in-place-unique family walk walk′ p q = p ∙ sym q
 
 pub hear-in-place-unique : (h : Hearing) (r s : ℤ) (walk walk′ : Walk) (list list′ : List ℕ)
     → HearsInPlace h r walk list → HearsInPlace h s walk′ list′ → (r ≡ s) × (walk ≡ walk′) × (list ≡ list′)

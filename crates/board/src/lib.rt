@@ -1,7 +1,7 @@
 // The functions that the rack board's C firmware calls, each a thin shell with the promise of the one it calls; the card's over the bytes of
 // its record.
 // include/espenknoten.h declares them.
-mod in_place;
+pub mod in_place;
 
 ghost use mathlib.Core.Path.{_≡_};
 ghost use Prim.Native.Nat.{_≤_};

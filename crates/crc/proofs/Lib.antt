@@ -1,4 +1,3 @@
 pub mod Register
 pub mod Seal
-pub mod Unique
 pub mod Examples

@@ -6,4 +6,3 @@ pub mod Reading
 pub mod UidsFit
 pub mod Start
 pub mod Examples
-pub mod Unique

@@ -3,10 +3,7 @@ use mathlib.Core.Path.{_≡_, sym, _∙_}
 use mathlib.Core.List.{List}
 use Prim.Native.Nat.{ℕ}
 use Rattle.card.specs.declared.Card.{Card}
-use Rattle.record.specs.Record.{cardRead, Writes}
-
-pub read-unique : (bytes : List ℕ) (r s : Card) → r ≡ cardRead bytes → s ≡ cardRead bytes → r ≡ s
-read-unique bytes r s p q = p ∙ sym q
+use Rattle.record.specs.Record.{Writes}
 
 pub write-unique : (c : Card) (found : List ℕ) (r s : ℕ) (left right : List ℕ) → Writes c found r left → Writes c found s right → (r ≡ s) × (left ≡ right)
 write-unique c found r s left right p q = (p .number ∙ sym (q .number), p .leaves ∙ sym (q .leaves))

@@ -1,5 +1,4 @@
 pub mod Verdicts
 pub mod Modes
 pub mod Rules
-pub mod Unique
 pub mod Examples

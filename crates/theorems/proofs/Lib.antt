@@ -1,1 +1,6 @@
 pub mod FrontPage
+mod Kept
+pub mod Base
+pub mod Card
+pub mod Rack
+pub mod Board

@@ -1,20 +1,12 @@
 -- Any two results that a promise of this crate allows are equal, in what is returned and in every lent place. Assumes nothing.
 use mathlib.Core.Path.{_≡_, sym, _∙_}
-use mathlib.Core.Bool.{Bool}
 use mathlib.Core.List.{List}
 use Prim.Native.Nat.{ℕ}
 use Rattle.walk.specs.declared.Walk.{Walk}
 use Rattle.walk.specs.declared.Heard.{Heard}
 use Rattle.walk.specs.declared.Asked.{Asked}
-use Rattle.walk.specs.Record.{isAccepted, started}
 use Rattle.walk.specs.Hear.{Hearing, Hears}
 use Rattle.walk.specs.Ask.{Asking, Asks}
-
-pub start-unique : (family : ℕ) (r s : Walk) → r ≡ started family → s ≡ started family → r ≡ s
-start-unique family r s p q = p ∙ sym q
-
-pub is-accepted-unique : (w : Walk) (r s : Bool) → r ≡ isAccepted w → s ≡ isAccepted w → r ≡ s
-is-accepted-unique w r s p q = p ∙ sym q
 
 heard-same : (r s : Heard) → r .walk ≡ s .walk → r .number ≡ s .number → r ≡ s
 heard-same r s p q = λ i. record { walk = p i; number = q i }
