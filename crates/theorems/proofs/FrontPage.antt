@@ -6,8 +6,9 @@ use mathlib.Core.Bool.{Bool, true, false}
 use mathlib.Core.List.{List}
 use Prim.Native.Nat.{ℕ, _+_, _-_, _/_, _%_, _^_, _≤_, _<_}
 use lib.Dec.{ltb}
-use lib.IntN.{ℤ}
+use lib.IntN.{ℤ, pos}
 use lib.ListN.{length, take, getD}
+use Rattle.lent.specs.Bytes.{Bytes}
 use Rattle.lent.specs.Lent.{over}
 use Rattle.crc.specs.Check.{sealed, checkOf, isSealed}
 use Rattle.crc.proofs.Seal.{is-sealed-of-sealed, sealed-of-is-sealed}
@@ -28,10 +29,11 @@ use Rattle.slots.proofs.Unique.{low-bits-unique, high-bits-unique, is-below-uni
 use Rattle.tracks.specs.Track.{trackOf, slotMark}
 use Rattle.tracks.specs.Coder.{Codes}
 use Rattle.tracks.specs.Decoder.{told, Decodes}
-use Rattle.tracks.proofs.RoundTrip.{Bytes}
-use Rattle.tracks.proofs.Inverse.{Reads, decode-of-code, decode-reads, mark-no-track}
+use Rattle.tracks.specs.Examples.{Tracks}
+use Rattle.tracks.proofs.Different.{mark-no-track}
+use Rattle.tracks.proofs.Inverse.{decode-of-code, decode-answers}
 use Rattle.tracks.proofs.Unique.{code-unique, decode-unique}
-use Rattle.tracks.proofs.Examples.{Tracks, tracks}
+use Rattle.tracks.proofs.Examples.{tracks}
 use Rattle.card.specs.declared.Card.{Card}
 use Rattle.card.specs.declared.Turn.{Turn}
 use Rattle.requests.specs.declared.Deed.{Deed}
@@ -124,15 +126,16 @@ soundness-only = sealed-of-sound
 
 -- ---- Pulse tracks (demand 2: "frame to track and track to frame")
 
--- Decoding what was coded gives the frame and its coding back, for every frame of 0 to 64 bytes.
-decoding-what-was-coded : (coding : ℕ) (frame found : List ℕ) → coding < 2 → Bytes frame → length frame ≤ longest → longest ≤ length found
-    → Decodes (trackOf coding frame) found (told coding (length frame)) (over frame found)
+-- Decoding what was coded gives the frame and its coding back: wherever the coder answers a length n, the decoder reads the first n bytes that
+-- it left as that frame in that coding.
+decoding-what-was-coded : {frame : List ℕ} {coding : ℕ} {room : List ℕ} {n : ℕ} {track : List ℕ} → Codes frame coding room (pos n) track
+    → {found : List ℕ} {r : ℤ} {left : List ℕ} → Bytes frame → longest ≤ length found → Decodes (take n track) found r left
+    → (r ≡ told coding (length frame)) × (left ≡ over frame found)
 decoding-what-was-coded = decode-of-code
 
--- Whatever bytes are read, they are, to the byte, what the coder makes of the frame that is given back, or the slot mark; where they are
--- neither, the answer is number 9 and nothing changes.
-reading-anything : (t found : List ℕ) → longest ≤ length found → Reads t found
-reading-anything = decode-reads
+-- Whatever bytes are read, the decoder has an answer: the frame whose track they are, the slot mark, or number 8 or 9.
+reading-anything : (t found : List ℕ) → (r : ℤ) × (left : List ℕ) × Decodes t found r left
+reading-anything = decode-answers
 
 -- The slot mark is no frame's track.
 mark-alone : (coding : ℕ) (frame : List ℕ) → trackOf coding frame ≡ slotMark → ⊥

@@ -2,7 +2,7 @@
 ghost use mathlib.Core.Path.{_≡_};
 ghost use Prim.Native.Nat.{_%_};
 ghost use Rattle.tracks.specs.Track.{start, unit, pattern};
-ghost use Rattle.tracks.specs.Decoder.{pairOf};
+ghost use Rattle.tracks.specs.Steps.{pairOf};
 
 pub(crate) const END: u8 = 0x20;
 // What a unit that stands for no byte reads as.
