@@ -21,7 +21,7 @@
 
 struct side {
     uint16_t (*check)(const uint8_t *, size_t);
-    int64_t (*code)(const uint8_t *, size_t, uint8_t, uint8_t *, size_t);
+    int64_t (*code)(const uint8_t *, size_t, uint32_t, uint8_t *, size_t);
     int64_t (*decode)(const uint8_t *, size_t, uint8_t *, size_t);
     int64_t (*frame)(uint8_t *, size_t, const uint8_t *, size_t, uint8_t *,
                      size_t, uint8_t *, size_t, uint8_t *, size_t);
@@ -41,7 +41,7 @@ enum task { CHECK, CODE, DECODE, FRAME, MARK };
 struct row {
     const char *name;
     enum task task;
-    uint8_t coding;
+    uint32_t coding;
     size_t length;
     uint8_t message[4];
 };

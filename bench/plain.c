@@ -59,7 +59,7 @@ static void code_one_of_256(const uint8_t *frame, size_t length, uint8_t *units)
     }
 }
 
-int64_t plain_code(const uint8_t *frame, size_t length, uint8_t coding,
+int64_t plain_code(const uint8_t *frame, size_t length, uint32_t coding,
                    uint8_t *track, size_t room)
 {
     if (length > EK_FRAME_MAX || coding > EK_ONE_OF_256) {

@@ -8,7 +8,7 @@
 
 uint16_t plain_check(const uint8_t *bytes, size_t length);
 
-int64_t plain_code(const uint8_t *frame, size_t length, uint8_t coding,
+int64_t plain_code(const uint8_t *frame, size_t length, uint32_t coding,
                    uint8_t *track, size_t room);
 
 int64_t plain_decode(const uint8_t *track, size_t length, uint8_t *frame,

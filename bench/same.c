@@ -20,7 +20,7 @@ static void must(bool holds, const char *what)
 }
 
 /* Returns the answer, and leaves the track in the caller's buffer. */
-static int64_t code(const uint8_t *frame, size_t length, uint8_t coding,
+static int64_t code(const uint8_t *frame, size_t length, uint32_t coding,
                     uint8_t *track, size_t room)
 {
     static uint8_t other[EK_TRACK_MAX];
@@ -49,7 +49,7 @@ void must_be_same(const uint8_t *frame)
     static uint8_t track[EK_TRACK_MAX];
     for (size_t length = 0; length <= EK_FRAME_MAX; length++) {
         must(ek_check(frame, length) == plain_check(frame, length), "check");
-        for (uint8_t coding = 0; coding <= EK_ONE_OF_256; coding++) {
+        for (uint32_t coding = 0; coding <= EK_ONE_OF_256; coding++) {
             int64_t n = code(frame, length, coding, track, sizeof track);
             decode(track, (size_t)n, EK_FRAME_MAX);
         }
@@ -74,7 +74,7 @@ void must_refuse_same(const uint8_t *frame)
     static uint8_t track[EK_TRACK_MAX];
     const uint8_t slot_mark[] = {0x20};
     for (size_t length = 0; length <= EK_FRAME_MAX; length += 8) {
-        for (uint8_t coding = 0; coding <= EK_ONE_OF_256 + 1; coding++) {
+        for (uint32_t coding = 0; coding <= EK_ONE_OF_256 + 1; coding++) {
             size_t short_4 = EK_TRACK_ONE_OF_4(length) - 1;
             size_t short_256 = EK_TRACK_ONE_OF_256(length) - 1;
             code(frame, length, coding, track, short_4);
@@ -86,6 +86,9 @@ void must_refuse_same(const uint8_t *frame)
             }
         }
     }
+    /* Numbers that would be codings if their upper bits were lost. */
+    code(frame, EK_FRAME_MAX, 256 + EK_ONE_OF_4, track, sizeof track);
+    code(frame, EK_FRAME_MAX, 65536 + EK_ONE_OF_256, track, sizeof track);
     decode(slot_mark, sizeof slot_mark, EK_FRAME_MAX);
     decode(slot_mark, sizeof slot_mark, EK_FRAME_MAX - 1);
 }

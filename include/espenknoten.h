@@ -84,7 +84,7 @@ int64_t ek_seal(uint8_t *buffer, size_t room, size_t length);
  * neither EK_ONE_OF_4 nor EK_ONE_OF_256. EK_REFUSED_ROOM, looked for after
  * that: room is less than the track's length.
  */
-int64_t ek_code(const uint8_t *frame, size_t length, uint8_t coding,
+int64_t ek_code(const uint8_t *frame, size_t length, uint32_t coding,
                 uint8_t *track, size_t room);
 
 /*

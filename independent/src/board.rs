@@ -10,7 +10,7 @@ extern "C" {
     // Taken as a number: a C bool is a byte, and one over 1 must be seen.
     fn ek_is_sound(frame: *const u8, length: usize) -> u8;
     fn ek_seal(buffer: *mut u8, room: usize, length: usize) -> i64;
-    fn ek_code(frame: *const u8, length: usize, coding: u8, track: *mut u8, room: usize) -> i64;
+    fn ek_code(frame: *const u8, length: usize, coding: u32, track: *mut u8, room: usize) -> i64;
     fn ek_decode(track: *const u8, length: usize, frame: *mut u8, room: usize) -> i64;
 }
 
@@ -48,7 +48,7 @@ pub fn seal(buffer: Lent, length: usize) -> i64 {
     unsafe { ek_seal(buffer.start, buffer.length, length) }
 }
 
-pub fn code(frame: Lent, coding: u8, track: Lent) -> i64 {
+pub fn code(frame: Lent, coding: u32, track: Lent) -> i64 {
     unsafe { ek_code(frame.start, frame.length, coding, track.start, track.length) }
 }
 

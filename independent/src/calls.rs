@@ -77,7 +77,7 @@ impl Calls {
         judge(&mut self.tally, call, decimal, [said, expected], &[&self.sealing]);
     }
 
-    pub fn code(&mut self, frame: &[u8], coding: u8, room: usize) {
+    pub fn code(&mut self, frame: &[u8], coding: u32, room: usize) {
         self.input.lay(&mut self.noise, frame, 0..frame.len());
         self.coding.lay_room(&mut self.noise, room);
         let expected = match code(frame, coding, room) {

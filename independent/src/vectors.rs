@@ -27,7 +27,7 @@ pub enum Side {
 pub struct TrackCase {
     pub place: String,
     /// None where there is no frame.
-    pub coding: Option<u8>,
+    pub coding: Option<u32>,
     pub frame: Side,
     pub track: Side,
 }

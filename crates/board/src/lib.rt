@@ -35,7 +35,7 @@ pub extern "C" fn ek_seal(buffer: &mut [u8], length: usize) -> i64
 }
 
 #[no_mangle]
-pub extern "C" fn ek_code(frame: &[u8], coding: u8, track: &mut [u8]) -> i64
+pub extern "C" fn ek_code(frame: &[u8], coding: u32, track: &mut [u8]) -> i64
     ensures { λ r. ⌜ Codes (now (frame .entry)) coding (now (track .entry)) r (now (track .exit)) ⌝ }
 {
     tracks::coder::code(frame, coding, track)

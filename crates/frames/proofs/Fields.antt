@@ -12,6 +12,7 @@ use native.Mathlib.Decide.{decLt}
 use lib.ListN.{length, take, drop, getD, set, length-take, List·getD-eq-default}
 use lib.Dec.{ltb}
 use lib.Seq.{getD-take, getD-drop}
+use Rattle.lent.specs.Bytes.{Bytes}
 use Rattle.lent.specs.Lent.{placed}
 use Rattle.lent.proofs.Over.{set-placed}
 use Rattle.frames.specs.Field.{fieldOf, fieldBytes, fieldAt, fieldByte, fourAt}
@@ -103,7 +104,7 @@ field-of-bytes (suc count) value h =
     rw (field-of-bytes count (value / 256) upper-fits) (omega arith)
 
 -- and bytes come back from their value
-pub bytes-of-field : (bs : List ℕ) → ((i : ℕ) → getD bs i 0 < 256) → fieldBytes (length bs) (fieldOf bs) ≡ bs
+pub bytes-of-field : (bs : List ℕ) → Bytes bs → fieldBytes (length bs) (fieldOf bs) ≡ bs
 unfolding fieldOf fieldBytes
 bytes-of-field [] h = refl
 bytes-of-field (b ∷ bs) h =

@@ -7,7 +7,7 @@ use Prim.Native.Nat.{ℕ, suc, _+_, _-_, _/_, _%_, _≤_, _<_}
 use native.Mathlib.Omega.{arith}
 use borrow.Author.Tests.{lt-ltb, ltb-true, ltb-false, leb-true, leb-false, eqb-true}
 use lib.Dec.{eqb, leb, ltb}
-use lib.ListN.{getD}
+use Rattle.lent.specs.Bytes.{Bytes}
 use Rattle.hex.specs.Digits.{digitOf, isDigit, digit, hexDigits}
 use Rattle.hex.specs.Rows.{isPair, isRow, pairOf, rowBytes, rowText}
 use Rattle.hex.proofs.Digits.{digit-low, digit-0-9, digit-between, digit-A-F, digit-high, digit-decimal, digit-letter}
@@ -83,7 +83,7 @@ row-of-bytes (b ∷ bs) =
     rw (high, low, row-of-bytes bs)
 
 -- and stands for them
-pub bytes-of-row : (bytes : List ℕ) → ((i : ℕ) → getD bytes i 0 < 256) → rowBytes (rowText bytes) ≡ bytes
+pub bytes-of-row : (bytes : List ℕ) → Bytes bytes → rowBytes (rowText bytes) ≡ bytes
 unfolding rowText hexDigits rowBytes
 bytes-of-row [] h = refl
 bytes-of-row (b ∷ bs) h = rw (pair-of-byte b (h 0), bytes-of-row bs (λ i. h (suc i)))

@@ -13,7 +13,7 @@ use lib.Seq.{drop-drop}
 use Rattle.lent.specs.Lent.{placed}
 use Rattle.lent.proofs.Over.{set-placed}
 use Rattle.tracks.specs.Track.{unit}
-use Rattle.tracks.specs.Decoder.{byteOf, areBytes, bytesOf}
+use Rattle.tracks.specs.Steps.{byteOf, areBytes, bytesOf}
 
 -- one unit more is a byte
 pub are-bytes-more : (coding n i at : ℕ) (t : List ℕ) → i < n

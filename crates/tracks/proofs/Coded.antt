@@ -5,7 +5,7 @@ use native.Mathlib.Decide.{ℕ-discrete}
 use mathlib.Core.List.{List}
 use lib.ListN.{length}
 use Rattle.tracks.specs.Track.{quad, long, coded, unit}
-use Rattle.tracks.specs.Decoder.{byteOf}
+use Rattle.tracks.specs.Steps.{byteOf}
 use Rattle.tracks.proofs.Units.{coded-of-4, coded-of-256, unit-of-4, unit-of-256}
 use Rattle.tracks.proofs.Reading.{byte-of-4, byte-of-256}
 use Rattle.tracks.proofs.OneOf4.{quad-read, quad-write}

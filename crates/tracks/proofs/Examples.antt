@@ -1,38 +1,35 @@
--- 01's examples of pulse tracks, by computation and by the ways out. Assumes nothing.
-use mathlib.Core.Path.{_≡_, refl, sym}
-use mathlib.Core.List.{List, [], _∷_}
-use Prim.Native.Nat.{ℕ, _≤_, _<_}
+-- 01's examples of pulse tracks: each result by computation and by the ways out, and it is the only one. Assumes nothing.
+use mathlib.Core.Path.{_≡_, refl}
+use mathlib.Core.List.{[], _∷_, _++_}
 use native.Mathlib.Omega.{arith}
-use lib.IntN.{pos}
-use lib.ListN.{length, set}
-use Rattle.lent.specs.Lent.{refused}
+use lib.ListN.{set, replicate}
+use Rattle.lent.proofs.Over.{over-none}
 use Rattle.frames.specs.Frame.{longest}
-use Rattle.tracks.specs.Track.{start, pattern, quad, blank, long, coded, unit, pulses, trackOf, trackLength}
-use Rattle.tracks.specs.Coder.{codeAnswer}
-use Rattle.tracks.specs.Decoder.{pairOf, joined, zeros, lone, byteOf, areBytes, bytesOf, countOf, isTrack, isSlotMark, told, decodeAnswer}
+use Rattle.tracks.specs.Track.{start, pattern, quad, blank, long, coded, unit, pulses, trackOf}
+use Rattle.tracks.specs.Steps.{pairOf, joined, zeros, lone, byteOf, areBytes, bytesOf, countOf, isTrack, isSlotMark}
+use Rattle.tracks.specs.Examples.{Tracks}
 use Rattle.tracks.proofs.CodeWays.{codes-too-long, codes-served}
+use Rattle.tracks.proofs.DecodeWays.{decodes-frame, decodes-no-track}
+use Rattle.tracks.proofs.RoundTrip.{frameOf}
+use Rattle.tracks.proofs.Unique.{code-unique, decode-unique}
 
-pub record Tracks : Type 0 where
-  -- "E1 is track 84 10 40 04 01 20"
-  pub e1-of-4 : trackOf 0 (0xe1 ∷ []) ≡ 0x84 ∷ 0x10 ∷ 0x40 ∷ 0x04 ∷ 0x01 ∷ 0x20 ∷ []
-  -- "in 1 of 256, E1 has 10 at place 56", and its other 63 bytes are 00
-  pub e1-of-256 : long 0xe1 ≡ set blank 56 0x10
-  -- "84 20 is the empty frame; 84 40 20 is no track"
-  pub empty : decodeAnswer (0x84 ∷ 0x20 ∷ []) 64 ≡ told 0 0
-  pub no-track : decodeAnswer (0x84 ∷ 0x40 ∷ 0x20 ∷ []) 64 ≡ refused 9
-  -- "64 bytes code, 65 is number 7"
-  pub longest-codes : (frame found : List ℕ) (coding : ℕ) → length frame ≡ 64 → coding < 2 → trackLength coding 64 ≤ length found
-      → codeAnswer frame coding (length found) ≡ pos (trackLength coding 64)
-  pub too-long : (frame found : List ℕ) (coding : ℕ) → length frame ≡ 65 → codeAnswer frame coding (length found) ≡ refused 7
+e1-track : trackOf 0 (0xe1 ∷ []) ≡ 0x84 ∷ 0x10 ∷ 0x40 ∷ 0x04 ∷ 0x01 ∷ 0x20 ∷ []
+unfolding start pattern quad coded pulses trackOf
+e1-track = refl
+
+e1-long-track : trackOf 1 (0xe1 ∷ []) ≡ 0x81 ∷ set (replicate 64 0x00) 56 0x10 ++ 0x20 ∷ []
+unfolding start pattern blank long coded pulses trackOf
+e1-long-track = refl
 
 pub tracks : Tracks
-unfolding start pattern quad long coded unit pulses trackOf pairOf joined zeros lone byteOf areBytes bytesOf countOf isTrack isSlotMark decodeAnswer longest
+unfolding start pattern unit pairOf joined zeros lone byteOf areBytes bytesOf countOf isTrack isSlotMark frameOf longest
 tracks =
     record {
-      e1-of-4 = refl;
-      e1-of-256 = refl;
-      empty = refl;
-      no-track = refl;
-      longest-codes = λ frame found coding n c room. sym (rw n at (codes-served frame coding found (omega arith) c (rw n room) .answer));
-      too-long = λ frame found coding n. sym (codes-too-long frame coding found (omega arith) .answer);
+      e1-of-4 = λ found r left room p. rw e1-track at (code-unique p (codes-served (0xe1 ∷ []) 0 found (omega arith) (omega arith) room));
+      e1-of-256 = λ found r left room p. rw e1-long-track at (code-unique p (codes-served (0xe1 ∷ []) 1 found (omega arith) (omega arith) room));
+      empty = λ found r left room p. rw over-none at (decode-unique p (decodes-frame (0x84 ∷ 0x20 ∷ []) found room 0 (omega arith) refl));
+      no-track = λ found r left room p. decode-unique p (decodes-no-track (0x84 ∷ 0x40 ∷ 0x20 ∷ []) found room refl refl refl);
+      longest-of-4 = λ frame found r left n room p. rw n at (code-unique p (codes-served frame 0 found (omega arith) (omega arith) (rw n room)));
+      longest-of-256 = λ frame found r left n room p. rw n at (code-unique p (codes-served frame 1 found (omega arith) (omega arith) (rw n room)));
+      too-long = λ frame found coding r left n p. code-unique p (codes-too-long frame coding found (omega arith));
     }

@@ -9,7 +9,7 @@ use lib.Dec.{leb, eqb}
 use lib.ListN.{length, getD, drop}
 use Rattle.frames.specs.Frame.{longest}
 use Rattle.tracks.specs.Track.{start, end, trackLength}
-use Rattle.tracks.specs.Decoder.{areBytes, countOf, isTrack, lengthAs}
+use Rattle.tracks.specs.Steps.{areBytes, countOf, isTrack, lengthAs}
 
 -- the tests on all but the units
 abbrev pub framed : ℕ → List ℕ → Bool

@@ -7,11 +7,12 @@ pub mod Reading
 pub mod Bytes
 pub mod LengthWays
 pub mod Parts
-pub mod DecodeWays
 pub mod OneOf4
 pub mod OneOf256
 pub mod Coded
 pub mod RoundTrip
-pub mod Inverse
+pub mod DecodeWays
+pub mod Different
 pub mod Unique
+pub mod Inverse
 pub mod Examples

@@ -11,7 +11,7 @@ use lib.Dec.{eqb, ltb}
 use lib.ListN.{length, getD, drop, set, replicate, length-replicate, List·getD-eq-default}
 use lib.Seq.{getD-set-same, drop-set-lt}
 use Rattle.tracks.specs.Track.{pattern, blank, long}
-use Rattle.tracks.specs.Decoder.{pairOf, zeros, lone}
+use Rattle.tracks.specs.Steps.{pairOf, zeros, lone}
 use Rattle.tracks.proofs.Patterns.{pair-of-pattern, pattern-of-pair}
 use Rattle.tracks.proofs.Zeros.{zeros-most}
 

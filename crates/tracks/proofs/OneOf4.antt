@@ -10,7 +10,7 @@ use lib.Dec.{eqb, ltb}
 use lib.ListN.{length}
 use lib.Pow.{shr-shr}
 use Rattle.tracks.specs.Track.{pattern, quad}
-use Rattle.tracks.specs.Decoder.{pairOf, joined, byteOf}
+use Rattle.tracks.specs.Steps.{pairOf, joined, byteOf}
 use Rattle.tracks.proofs.Every.{every, every-at}
 use Rattle.tracks.proofs.Patterns.{pattern-of-pair}
 

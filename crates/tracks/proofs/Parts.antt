@@ -9,7 +9,7 @@ use lib.Dec.{eqb, leb}
 use lib.ListN.{length, getD, drop}
 use Rattle.frames.specs.Frame.{longest}
 use Rattle.tracks.specs.Track.{start, end, unit, trackLength}
-use Rattle.tracks.specs.Decoder.{areBytes, countOf, isTrack, lengthAs}
+use Rattle.tracks.specs.Steps.{areBytes, countOf, isTrack, lengthAs}
 
 pub record Parts (coding : ℕ) (t : List ℕ) : Type 0 where
   pub size : length t ≡ trackLength coding (countOf coding t)

@@ -8,7 +8,7 @@ use lib.Bits.{bitAnd, bitOr}
 use lib.Dec.{eqb}
 use borrow.Author.Tests.{eqb-true, eq-eqb, ne-eqb}
 use Rattle.tracks.specs.Track.{pattern}
-use Rattle.tracks.specs.Decoder.{pairOf}
+use Rattle.tracks.specs.Steps.{pairOf}
 use Rattle.tracks.proofs.Every.{every, every-at}
 
 -- one of four, as the code picks it: by whether the pair's high bit is 0, then by whether its low bit is

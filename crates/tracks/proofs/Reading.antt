@@ -10,7 +10,7 @@ use lib.Dec.{eqb, ltb}
 use lib.ListN.{length, getD, take, drop, length-drop, List·getD-eq-default}
 use lib.Seq.{getD-take, getD-drop, take-nil, drop-drop, length-take-le}
 use Rattle.tracks.specs.Track.{unit}
-use Rattle.tracks.specs.Decoder.{pairOf, joined, zeros, lone, byteOf}
+use Rattle.tracks.specs.Steps.{pairOf, joined, zeros, lone, byteOf}
 
 -- a byte of the m bytes at a place
 getD-part : (t : List ℕ) (at m k : ℕ) → k < m → getD (take m (drop at t)) k 0 ≡ getD t (at + k) 0

@@ -10,17 +10,18 @@ use lib.Dec.{ltb}
 use borrow.Author.Tests.{lt-ltb, ltb-true}
 use lib.ListN.{length, getD, take, drop, length-drop, take-append-drop, drop-of-length-le}
 use lib.Seq.{take-at, drop-at, drop-drop, length-take-le, drop-cons, getD-at}
+use Rattle.lent.specs.Bytes.{Bytes}
 use Rattle.frames.specs.Frame.{longest}
 use Rattle.tracks.specs.Track.{start, end, coded, unit, pulses, trackOf, trackLength}
-use Rattle.tracks.specs.Decoder.{byteOf, areBytes, bytesOf, countOf, isTrack, frameOf}
+use Rattle.tracks.specs.Steps.{byteOf, areBytes, bytesOf, countOf, isTrack}
 use Rattle.tracks.proofs.Units.{length-coded, length-pulses, length-track, unit-least}
 use Rattle.tracks.proofs.Bytes.{length-bytes-of}
 use Rattle.tracks.proofs.Coded.{byte-of-coded, coded-of-byte}
 use Rattle.tracks.proofs.Parts.{Parts, parts-of-track, track-of-parts}
 
--- the numbers of a list are bytes
-abbrev pub Bytes : List ℕ → Type 0
-Bytes frame = (i : ℕ) → getD frame i 0 < 256
+-- the frame that a track is read as
+unfoldable pub frameOf : ℕ → List ℕ → List ℕ
+frameOf coding t = bytesOf coding (countOf coding t) (drop 1 t)
 
 -- ---- the units of a frame
 

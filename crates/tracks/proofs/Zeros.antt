@@ -12,7 +12,7 @@ use lib.Bits.{bitOr, or-add-and, and-le-l, and-le-r}
 use lib.Dec.{eqb}
 use lib.ListN.{length, getD, take, drop}
 use lib.Seq.{drop-cons}
-use Rattle.tracks.specs.Decoder.{zeros}
+use Rattle.tracks.specs.Steps.{zeros}
 
 module _ (t : List ℕ) (at n i : ℕ) (more : i < n) (inside : at + n ≤ length t) where
   -- the rest of the n bytes from byte i on begins with that byte

@@ -1,4 +1,5 @@
--- 01, Pulse tracks: the track of a frame.
+-- 01, Pulse tracks: the track of a frame, as the list of its bytes.
+-- "Time is cut into intervals of 9.44 µs. A track packs eight intervals into a byte, earliest in the top bit, 1 for a pause."
 use Prim.Native.Nat.{ℕ, _+_, _*_, _/_, _%_}
 use mathlib.Core.List.{List, [], _∷_, _++_}
 use mathlib.Core.Bool.{cond}
@@ -11,15 +12,14 @@ use lib.ListN.{getD, set, replicate}
 unfoldable pub start : ℕ → ℕ
 start coding = cond (eqb coding 0) 0x84 0x81
 
--- "End: 20"
+-- "End: 20 (four intervals and four zero bits)."
 abbrev pub end : ℕ
 end = 0x20
 
--- "00 is 40, 01 is 10, 10 is 04, 11 is 01"
+-- "1 of 4: each bit pair, lowest pair first, is one byte: 00 is 40, 01 is 10, 10 is 04, 11 is 01.": the pattern of a pair, and those of a byte
 unfoldable pub pattern : ℕ → ℕ
 pattern pair = getD (0x40 ∷ 0x10 ∷ 0x04 ∷ 0x01 ∷ []) pair 0
 
--- "1 of 4: each bit pair, lowest pair first, is one byte"
 unfoldable pub quad : ℕ → List ℕ
 quad v = pattern (v % 4) ∷ pattern (v / 4 % 4) ∷ pattern (v / 16 % 4) ∷ pattern (v / 64 % 4) ∷ []
 

@@ -48,7 +48,7 @@ fn put_long(track: &mut [u8], at: usize, v: u8)
     track[at + place] = pattern_of(v);
 }
 
-fn put(track: &mut [u8], coding: u8, at: usize, v: u8)
+fn put(track: &mut [u8], coding: u32, at: usize, v: u8)
     requires { ⌜ at + unit coding ≤ length (now track) ⌝ }
     ensures { λ _. ⌜ now (track .exit) ≡ placed at (coded coding v) (now (track .entry)) ⌝ }
 {
@@ -60,7 +60,7 @@ fn put(track: &mut [u8], coding: u8, at: usize, v: u8)
 }
 
 // The bytes of a frame between start and end.
-fn put_all(frame: &[u8], coding: u8, track: &mut [u8])
+fn put_all(frame: &[u8], coding: u32, track: &mut [u8])
     requires { ⌜ 1 + unit coding * length (now frame) ≤ length (now track) ⌝ }
     ensures { λ _. ⌜ now (track .exit) ≡ placed 1 (pulses coding (now (frame .entry))) (now (track .entry)) ⌝ }
 {
@@ -75,7 +75,7 @@ fn put_all(frame: &[u8], coding: u8, track: &mut [u8])
 }
 
 // The whole track of a frame, whose length is n.
-fn put_track(frame: &[u8], coding: u8, track: &mut [u8], n: usize)
+fn put_track(frame: &[u8], coding: u32, track: &mut [u8], n: usize)
     requires { ⌜ (n ≡ trackLength coding (length (now frame))) × (n ≤ length (now track)) ⌝ }
     ensures { λ _. ⌜ now (track .exit) ≡ over (trackOf coding (now (frame .entry))) (now (track .entry)) ⌝ }
 {
@@ -85,7 +85,7 @@ fn put_track(frame: &[u8], coding: u8, track: &mut [u8], n: usize)
 }
 
 // The frame's track at the start of the room that is lent. Returns the track's length, or minus the number of the refusal.
-pub fn code(frame: &[u8], coding: u8, track: &mut [u8]) -> i64
+pub fn code(frame: &[u8], coding: u32, track: &mut [u8]) -> i64
     ensures { λ r. ⌜ Codes (now (frame .entry)) coding (now (track .entry)) r (now (track .exit)) ⌝ }
 {
     if LONGEST < frame.len() {

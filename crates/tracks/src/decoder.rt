@@ -5,7 +5,8 @@ ghost use Prim.Native.Nat.{ℕ, _+_, _-_, _*_, _≤_, _<_};
 ghost use lib.ListN.{length, getD, take, drop};
 ghost use Rattle.lent.specs.Lent.{over};
 ghost use Rattle.tracks.specs.Track.{unit};
-ghost use Rattle.tracks.specs.Decoder.{joined, zeros, lone, byteOf, areBytes, bytesOf, lengthAs, isSlotMark, Decodes};
+ghost use Rattle.tracks.specs.Steps.{joined, zeros, lone, byteOf, areBytes, bytesOf, lengthAs, isSlotMark};
+ghost use Rattle.tracks.specs.Decoder.{Decodes};
 use crate::pulse::END;
 use crate::pulse::NONE;
 use crate::pulse::pair_of;
@@ -104,7 +105,7 @@ fn lone_at(track: &[u8], at: usize) -> u16
 }
 
 // The byte of the unit at a place, or NONE.
-fn byte_at(track: &[u8], coding: u8, at: usize) -> u16
+fn byte_at(track: &[u8], coding: u32, at: usize) -> u16
     requires { ⌜ at + unit coding ≤ length (now track) ⌝ }
     ensures { λ r. ⌜ r ≡ byteOf coding (take (unit coding) (drop at (now (track .entry)))) ⌝ }
 {
@@ -116,7 +117,7 @@ fn byte_at(track: &[u8], coding: u8, at: usize) -> u16
 }
 
 // Whether n units stand for a byte each.
-fn all_bytes(track: &[u8], coding: u8, n: usize) -> bool
+fn all_bytes(track: &[u8], coding: u32, n: usize) -> bool
     requires { ⌜ 1 + unit coding * n ≤ length (now track) ⌝ }
     ensures { λ r. ⌜ r ≡ areBytes coding n (drop 1 (now (track .entry))) ⌝ }
 {
@@ -134,7 +135,7 @@ fn all_bytes(track: &[u8], coding: u8, n: usize) -> bool
 }
 
 // Writes the bytes of n units.
-fn put_bytes(track: &[u8], coding: u8, n: usize, frame: &mut [u8])
+fn put_bytes(track: &[u8], coding: u32, n: usize, frame: &mut [u8])
     requires { ⌜ 1 + unit coding * n ≤ length (now track) ⌝ }
     requires { ⌜ areBytes coding n (drop 1 (now track)) ≡ true ⌝ }
     requires { ⌜ n ≤ length (now frame) ⌝ }
@@ -151,7 +152,7 @@ fn put_bytes(track: &[u8], coding: u8, n: usize, frame: &mut [u8])
 }
 
 // The length of the frame whose track this is in a coding, or one more than the longest where it is none.
-fn length_as(track: &[u8], coding: u8) -> usize
+fn length_as(track: &[u8], coding: u32) -> usize
     ensures { λ r. ⌜ r ≡ lengthAs coding (now (track .entry)) ⌝ }
 {
     let n = track.len();

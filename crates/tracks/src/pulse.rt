@@ -2,20 +2,20 @@
 ghost use mathlib.Core.Path.{_≡_};
 ghost use Prim.Native.Nat.{_%_};
 ghost use Rattle.tracks.specs.Track.{start, unit, pattern};
-ghost use Rattle.tracks.specs.Decoder.{pairOf};
+ghost use Rattle.tracks.specs.Steps.{pairOf};
 
 pub(crate) const END: u8 = 0x20;
 // What a unit that stands for no byte reads as.
 pub(crate) const NONE: u16 = 256;
 
-pub(crate) fn start_of(coding: u8) -> u8
+pub(crate) fn start_of(coding: u32) -> u8
     ensures { λ r. ⌜ r ≡ start coding ⌝ }
 {
     if coding == 0 { 0x84 } else { 0x81 }
 }
 
 // How many track bytes a frame's byte takes.
-pub(crate) fn unit_of(coding: u8) -> usize
+pub(crate) fn unit_of(coding: u32) -> usize
     ensures { λ r. ⌜ r ≡ unit coding ⌝ }
 {
     if coding == 0 { 4 } else { 64 }

@@ -12,14 +12,14 @@ pub const CODINGS: [Coding; 2] = [Coding::OneOf4, Coding::OneOf256];
 
 impl Coding {
     /// The coding's number on the rules page.
-    pub fn number(self) -> u8 {
+    pub fn number(self) -> u32 {
         match self {
             Coding::OneOf4 => 0,
             Coding::OneOf256 => 1,
         }
     }
 
-    pub fn numbered(number: u8) -> Option<Coding> {
+    pub fn numbered(number: u32) -> Option<Coding> {
         CODINGS.into_iter().find(|coding| coding.number() == number)
     }
 
@@ -76,7 +76,7 @@ pub fn track_of(bytes: &[u8], coding: Coding) -> Vec<u8> {
 }
 
 /// The coder with its refusals in order: 7, then 8.
-pub fn code(frame: &[u8], coding: u8, room: usize) -> Result<Vec<u8>, Refusal> {
+pub fn code(frame: &[u8], coding: u32, room: usize) -> Result<Vec<u8>, Refusal> {
     let coding = Coding::numbered(coding).ok_or(Refusal::FrameOrCoding)?;
     if frame.len() > FRAME_MAX {
         return Err(Refusal::FrameOrCoding);

@@ -9,7 +9,7 @@ use lib.ListN.{length, take, drop}
 use native.Mathlib.Nat.{mul-zero, sub-zero}
 use Rattle.tracks.proofs.Units.{unit-room}
 use Rattle.tracks.proofs.Bytes.{are-bytes-more, are-bytes-none}
-use Rattle.tracks.specs.Decoder.{byteOf, areBytes}
+use Rattle.tracks.specs.Steps.{byteOf, areBytes}
 use Rattle.tracks.specs.Track.{unit}
 use Rattle.tracks.proofs.decoder.all_bytes.Statement.{statement}
 use Rattle.tracks.proofs.decoder.all_bytes.Tie as tie

@@ -7,7 +7,7 @@ use Prim.Native.Nat.{_+_, _-_, _≤_}
 use lib.ListN.{take, drop}
 use native.Mathlib.Nat.{add-zero, zero-add, sub-zero}
 use Rattle.tracks.proofs.Zeros.{zeros-skip}
-use Rattle.tracks.specs.Decoder.{zeros}
+use Rattle.tracks.specs.Steps.{zeros}
 use Rattle.tracks.proofs.decoder.blanks_at.Statement.{statement}
 use Rattle.tracks.proofs.decoder.blanks_at.Tie as tie
 

@@ -6,9 +6,9 @@ use Prim.Native.Nat.{_+_}
 use mir.ValLaws.{toZ-pos}
 use mir.Syntax.{w64}
 use native.Mathlib.Nat.{zero-add}
-use Rattle.tracks.specs.Decoder.{frameOf}
 use Rattle.frames.specs.Frame.{longest}
-use Rattle.tracks.proofs.DecodeWays.{decodes-no-room, decodes-mark, decodes-of-4, decodes-of-256, decodes-no-track}
+use Rattle.tracks.proofs.DecodeWays.{decodes-no-room, decodes-mark, decodes-frame, decodes-no-track}
+use Rattle.tracks.proofs.RoundTrip.{frameOf}
 use Rattle.tracks.proofs.Parts.{units-of-length, no-track-of-length}
 use Rattle.tracks.proofs.decoder.decode.Statement.{statement}
 use Rattle.tracks.proofs.decoder.decode.Tie as tie
@@ -58,11 +58,9 @@ returns-3 c =
     let args = c .before .before .before .before .before .before .before .before .before .before .before .args in
     let third = c .before .before .before .before .if3 in
     let first = c .before .before .before .before .before .before .before .before .if1 in
-    let is-slot-mark = c .before .before .before .before .before .before .before .is-slot-mark in
-    let second = c .before .before .before .before .before .before .if2 in
     let units = units-of-length 0 (args .track .now) (length-as .result) (length-as .ensures) (third .taken) in
     rw (toZ-pos w64 (length-as .result) (omega arith), put-bytes .ensures, units .count)
-    (rw zero-add at (decodes-of-4 (args .track .now) (args .frame .now) (first .left) (sym (is-slot-mark .ensures) ∙ second .left) (units .track)))
+    (rw zero-add at (decodes-frame (args .track .now) (args .frame .now) (first .left) 0 (omega arith) (units .track)))
 
 length-as-requires-2 : tie.Need-length-as-requires-2
 length-as-requires-2 c κs = omega arith
@@ -93,14 +91,9 @@ returns-4 c =
     let args = c .before .before .before .before .before .before .before .before .before .before .before .before .before .args in
     let fourth = c .before .before .before .before .if4 in
     let first = c .before .before .before .before .before .before .before .before .before .before .if1 in
-    let is-slot-mark = c .before .before .before .before .before .before .before .before .before .is-slot-mark in
-    let second = c .before .before .before .before .before .before .before .before .if2 in
-    let length-as = c .before .before .before .before .before .before .before .length-as in
-    let third = c .before .before .before .before .before .before .if3 in
     let units = units-of-length 1 (args .track .now) (length-as2 .result) (length-as2 .ensures) (fourth .taken) in
     rw (toZ-pos w64 (65536 + length-as2 .result) (omega arith), put-bytes2 .ensures, units .count)
-    (decodes-of-256 (args .track .now) (args .frame .now) (first .left) (sym (is-slot-mark .ensures) ∙ second .left)
-    (no-track-of-length 0 (args .track .now) (rw (length-as .ensures) at (third .left))) (units .track))
+    (decodes-frame (args .track .now) (args .frame .now) (first .left) 1 (omega arith) (units .track))
 
 returns-5 : tie.Need-returns-5
 unfolding frameOf longest

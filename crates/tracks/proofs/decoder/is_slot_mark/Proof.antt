@@ -1,7 +1,7 @@
 -- `tracks::decoder::is_slot_mark` meets its contract: the definition goes by the same two tests. Assumes nothing.
 use borrow.Author.Tests.{eq-eqb, ne-eqb}
 use native.Mathlib.Omega.{arith}
-use Rattle.tracks.specs.Decoder.{isSlotMark}
+use Rattle.tracks.specs.Steps.{isSlotMark}
 use Rattle.tracks.proofs.decoder.is_slot_mark.Statement.{statement}
 use Rattle.tracks.proofs.decoder.is_slot_mark.Tie as tie
 

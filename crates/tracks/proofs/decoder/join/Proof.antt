@@ -1,7 +1,7 @@
 -- `tracks::decoder::join` meets its contract: the definition goes by the same four tests. Assumes nothing.
 use mathlib.Core.Bool.{and-assoc}
 use native.Mathlib.Omega.{arith}
-use Rattle.tracks.specs.Decoder.{joined}
+use Rattle.tracks.specs.Steps.{joined}
 use Rattle.tracks.proofs.decoder.join.Statement.{statement}
 use Rattle.tracks.proofs.decoder.join.Tie as tie
 

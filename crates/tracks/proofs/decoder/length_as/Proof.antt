@@ -8,7 +8,7 @@ use native.Mathlib.Nat.{div-add-mod'}
 use native.Mathlib.Omega.{arith}
 use lib.ListN.{length}
 use Rattle.frames.specs.Frame.{longest}
-use Rattle.tracks.specs.Decoder.{countOf}
+use Rattle.tracks.specs.Steps.{countOf}
 use Rattle.tracks.proofs.LengthWays.{framed, size-of-framed, length-too-short, length-unframed, length-framed}
 use Rattle.tracks.proofs.Units.{unit-least}
 use Rattle.tracks.proofs.decoder.length_as.Statement.{statement}

@@ -9,7 +9,7 @@ use lib.ListN.{length, drop, length-set}
 use native.Mathlib.Nat.{mul-zero, sub-zero}
 use Rattle.tracks.proofs.Units.{unit-room}
 use Rattle.tracks.proofs.Bytes.{are-bytes-next, placed-bytes-suc}
-use Rattle.tracks.specs.Decoder.{areBytes, bytesOf}
+use Rattle.tracks.specs.Steps.{areBytes, bytesOf}
 use Rattle.tracks.specs.Track.{unit}
 use Rattle.lent.proofs.Over.{placed-none, placed-start}
 use Rattle.lent.specs.Lent.{placed}

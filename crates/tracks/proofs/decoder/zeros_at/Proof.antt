@@ -6,7 +6,7 @@ use mathlib.Core.Path.{_≡_}
 use Prim.Native.Nat.{_+_, _-_, _≤_}
 use lib.ListN.{take, drop}
 use Rattle.tracks.proofs.Zeros.{zeros-more, zeros-done, zeros-none}
-use Rattle.tracks.specs.Decoder.{zeros}
+use Rattle.tracks.specs.Steps.{zeros}
 use Rattle.tracks.proofs.decoder.zeros_at.Statement.{statement}
 use Rattle.tracks.proofs.decoder.zeros_at.Tie as tie
 
