@@ -1,4 +1,6 @@
 pub mod Field
 pub mod Played
+pub mod Found
 pub mod Replies
 pub mod Demand
+pub mod Examples
