@@ -1,4 +1,5 @@
 pub mod Field
+pub mod Answering
 pub mod Played
 pub mod Found
 pub mod Replies
