@@ -52,8 +52,8 @@ demand3 =
     (family : ℕ) (tags : List Tag) (list room : List ℕ) → AllObey tags → 64 ≤ length list → 14 ≤ length room
     → Demand3 family tags (answering family tags) (playedFor (16 * 481) (fresh family list room tags))
 
--- 01, Form by location: "The round count stands in the walk and equals the rounds of the definition." A round has sixteen slots: after n slots, while
--- the walk runs, that many rounds and slots are behind it, round 1 being counted from the start
+-- 01, Form by location: "The round count stands in the walk and equals the rounds of the definition." A round has sixteen slots and the first is round
+-- 1: after n slots a walk that still runs is in the round and in the slot that n gives
 unfoldable pub roundsCounted : Type 0
 roundsCounted =
     (family : ℕ) (tags : List Tag) (list room : List ℕ) → AllObey tags → 64 ≤ length list → 14 ≤ length room → (n : ℕ)
