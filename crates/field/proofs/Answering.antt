@@ -1,32 +1,64 @@
--- A card answers a walk's first request in some slot exactly if it answers the walk's family.
--- By the first round's empty mask: the lowest digit of the UID is the slot. Assumes nothing.
-use mathlib.Core.Path.{_≡_}
-use mathlib.Core.Bool.{true, and-eq-true-iff}
-use Prim.Native.Nat.{ℕ, _/_, _%_, _<_}
+-- A card that answers the walk's family is heard in the one slot of the first round that its UID's lowest digit names, any other card in none.
+-- By the slots one after the other: the request, then each mark, finds the card in step. Assumes nothing.
+use mathlib.Core.Path.{_≡_, refl, ap, _∙_}
+use mathlib.Core.Bool.{Bool, true, false, cond, not, _&&_}
+use Prim.Native.Nat.{ℕ, zero, suc, _+_, _*_, _%_, _^_, _≤_, _<_}
 use native.Mathlib.Omega.{arith}
-use borrow.Author.Tests.{eq-eqb}
-use Rattle.card.specs.declared.Card.{Card}
-use Rattle.slots.specs.Fits.{fitsMask, fitsSlot}
+use mathlib.Core.List.{List}
+use lib.Dec.{eqb}
+use lib.ListN.{length}
+use Rattle.slots.specs.Fits.{fitsSlot}
 use Rattle.walk.specs.declared.Walk.{Walk}
-use Rattle.walk.specs.Record.{running, maskLength, remade}
-use Rattle.field.specs.Field.{answers}
-use Rattle.field.proofs.InTime.{calls}
+use Rattle.walk.specs.Record.{running, maskLength, isRunning, remade, noMarks, started}
+use Rattle.walk.specs.Ask.{roomAfter}
+use Rattle.walk.proofs.Accepted.{started-accepted}
+use Rattle.field.specs.Field.{Tag, Obeys, answers, tagAfter}
+use Rattle.field.specs.Answering.{outcomeIn, isHeard, heardOnce}
+use Rattle.field.proofs.InTime.{calls, AtSlot}
+use Rattle.field.proofs.InStep.{self-follows}
+use Rattle.field.proofs.TagHeard.{stepped, request-reached, mark-reached}
+use Rattle.field.proofs.TagStepped.{stepped-at, stepped-told}
+use Rattle.field.proofs.Callers.{slot-tail}
+use Rattle.field.proofs.RowAsked.{walk-asked, sent-request}
 
--- slot s of a walk's first round, whatever it has marked and listed
-unfoldable pub firstRound : Walk → ℕ → Walk
-firstRound w s = remade w 0 (w .marks) 1 0 s (w .count) running
+-- slot s of a walk's first round
+unfoldable firstRound : ℕ → ℕ → Walk
+firstRound family s = remade (started family) 0 noMarks 1 0 s 0 running
 
-digit-fits : (uid : ℕ) → fitsSlot uid (maskLength 0) 0 (uid % 16) ≡ true
-unfolding fitsSlot fitsMask maskLength
-digit-fits uid =
-    let none : uid % 1 ≡ 0 = omega arith in
-    let digit : uid / 1 % 16 ≡ uid % 16 = omega arith in
-    rw (eq-eqb (uid % 1) 0 none, eq-eqb (uid / 1 % 16) (uid % 16) digit)
+-- the request of a fresh walk
+request-in : (family : ℕ) (room : List ℕ) (t : Tag) → Obeys t → 14 ≤ length room
+    → outcomeIn family room t 0 ≡ stepped family (firstRound family 0) t (t .room)
+unfolding outcomeIn roomAfter firstRound started remade isRunning maskLength
+request-in family room t o h =
+    rw (walk-asked (started family) room (started-accepted family) h, sent-request (started family) refl refl)
+    (request-reached (started family) room t t (omega arith) (omega arith) refl o (self-follows t o))
 
-pub answers-first : (w : Walk) (c : Card) → answers (w .family) c ≡ true → (s : ℕ) × ((s < 16) × (calls (w .family) (firstRound w s) c ≡ true))
-unfolding calls firstRound remade
-answers-first w c e = (c .uid % 16, (omega arith, rw (e, digit-fits (c .uid))))
+-- in slot s the card is in step with the walk, over its room as slot s found it
+in-step : (family : ℕ) (room : List ℕ) (t : Tag) → Obeys t → 14 ≤ length room → (s : ℕ) → s < 16
+    → (found : List ℕ) × ((outcomeIn family room t s ≡ stepped family (firstRound family s) t found) × (length found ≡ length (t .room)))
+unfolding outcomeIn tagAfter firstRound started remade maskLength
+in-step family room t o h zero g = (t .room, (request-in family room t o h, refl))
+in-step family room t o h (suc s) g =
+    let earlier = in-step family room t o h s (omega arith) in
+    let before : Tag = tagAfter (outcomeIn family room t s) in
+    let at : AtSlot family 0 0 s t before = rw (earlier .1 .0) (stepped-at family (firstRound family s) t (earlier .0) o (earlier .1 .1)) in
+    (before .room, (mark-reached family (firstRound family (suc s)) s room t before (omega arith) (omega arith) refl (omega arith) o at, at .room))
 
-pub first-answers : (w : Walk) (c : Card) (s : ℕ) → calls (w .family) (firstRound w s) c ≡ true → answers (w .family) c ≡ true
-unfolding calls
-first-answers w c s e = and-eq-true-iff (answers (w .family) c) _ .0 e .0
+-- with no mask the slot is the lowest digit
+digit-called : (uid s : ℕ) → s < 16 → fitsSlot uid (maskLength 0) 0 s ≡ eqb (uid % 16) s
+unfolding maskLength
+digit-called uid s h =
+    let tail : 0 + s * 16 ^ 0 ≡ s = omega arith in
+    slot-tail uid 0 0 s (omega arith) h ∙ ap (eqb (uid % 16)) tail
+
+told-heard : (b : Bool) → not (eqb (cond b 12 0) 0) ≡ b
+told-heard true = refl
+told-heard false = refl
+
+pub card-heard-once : heardOnce
+unfolding heardOnce isHeard calls firstRound started remade
+card-heard-once family room t o h s g =
+    let stepped-in = in-step family room t o h s g in
+    rw (stepped-in .1 .0, stepped-told family (firstRound family s) t (stepped-in .0))
+    (told-heard (calls family (firstRound family s) (t .card))
+    ∙ ap (λ (b : Bool). answers family (t .card) && b) (digit-called (t .card .uid) s g))

@@ -19,6 +19,7 @@ use Rattle.walk.specs.declared.Kind.the-variants as kind
 use Rattle.walk.specs.Record.{maskLength, started}
 use Rattle.walk.specs.Hear.{uidOf, isClean, judged}
 use Rattle.field.specs.Field.{Arrival}
+use Rattle.field.specs.Found.{listed}
 use Rattle.field.specs.Replies.{Walked, heardIn, heardAll, Holds, anyReplies}
 use Rattle.field.proofs.WaitSums.{slotTail}
 use Rattle.field.proofs.AnyReplies.{Walks, Fits, start-walks}
@@ -90,13 +91,15 @@ stage-all (a ∷ rest) n p s =
     (stage-all rest (suc n) (heardIn p a) (stage-slot n p a s))
 
 holds-of : (n : ℕ) (p : Walked) → Stage n (p .walk) (p .list) → Holds n p
+unfolding listed
 holds-of n p (hears g h e c) =
     record {
       accepted = walks-accepted (p .walk) (p .list) (p .walk .slot) h g;
       once = once (p .walk) (p .list) (p .walk .slot) g;
+      counted = λ r. c;
       ends = λ m. let most : p .walk .rounds ≤ 481 = g .steady .accepted .last-round in absurd (omega (arith, most, c, h, m));
     }
-holds-of n p (rests r e o) = record { accepted = r; once = o; ends = λ m. e }
+holds-of n p (rests r e o) = record { accepted = r; once = o; counted = λ r. absurd (false≢true (sym e ∙ r)); ends = λ m. e }
 
 pub walk-of-any-replies : anyReplies
 unfolding anyReplies started

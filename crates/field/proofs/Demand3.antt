@@ -1,22 +1,23 @@
--- Demand 3. By the verdict of a walk of a fixed field, and the measure that ends it.
+-- Demand 3, and what the round count counts. By the verdict of a walk of a fixed field, and the measure that ends it.
 -- Assumes nothing.
-use mathlib.Core.Path.{_≡_, refl, sym, ap₂, _∙_}
-use mathlib.Core.Bool.{Bool, true, false, cond}
+use mathlib.Core.Path.{_≡_, refl, sym, ap₂, subst, _∙_}
+use mathlib.Core.Bool.{Bool, true, false, cond, false≢true}
 use Prim.Native.Nat.{ℕ, zero, suc, _+_, _*_, _/_, _^_, _≤_, _<_}
+use native.Mathlib.Nat.{zero-add}
 use native.Mathlib.Omega.{arith}
 use mathlib.Core.List.{List, [], _∷_}
 use lib.Dec.{eqb}
-use lib.ListN.{length, take, getD, length-take}
+use lib.ListN.{length, getD}
 use Rattle.card.specs.declared.Card.{Card}
 use Rattle.tails.specs.Sum.{one, times}
 use Rattle.tails.specs.Tails.{sharedTails}
-use Rattle.tails.proofs.Tally.{tally-one}
 use Rattle.tails.proofs.Bounds.{shared-tails-half}
 use Rattle.walk.specs.declared.Walk.{Walk}
 use Rattle.walk.specs.Record.{isRunning}
 use Rattle.field.specs.Field.{Tag, answers, answering}
 use Rattle.field.specs.Played.{Play, playedFor, fresh}
-use Rattle.field.specs.Demand.{Different, listed, AllObey, none, more, cardLeft, cardsLeft, cards, memories, lockBytes, Demand3, demand3}
+use Rattle.field.specs.Found.{Different, listed, Found}
+use Rattle.field.specs.Demand.{AllObey, none, more, cardLeft, cardsLeft, cards, memories, lockBytes, Demand3, demand3, roundsCounted}
 use Rattle.field.proofs.Next.{Verdict, completes, twin, fills}
 use Rattle.field.proofs.InTime.{AtSlot, Both, inStep}
 use Rattle.field.proofs.InTime as row
@@ -56,13 +57,9 @@ locks-of family level mask s (t₀ ∷ ts₀) (t ∷ ts) (row.more h b) =
 
 -- ---- what the verdict means
 
-judged : (family : ℕ) (tags : List Tag) (us : List ℕ) (p : Play) → isRunning (p .walk) ≡ false → Verdict us (p .walk) (p .list)
-    → Both (AtSlot family (p .walk .level) (p .walk .mask) (p .walk .slot)) tags (p .tags) → Demand3 family tags us p
+verdict-found : (us : List ℕ) (w : Walk) (list : List ℕ) → isRunning w ≡ false → Verdict us w list → Found us w list
 unfolding Different listed times
-judged family tags us p end (completes e few same once rounds) b =
-    let ls : List ℕ = take (p .walk .count) (p .list) in
-    let number : length us ≡ length ls = sym (tally-one us) ∙ sym (same (λ u. 1)) ∙ tally-one ls in
-    let short : length ls ≤ 64 = rw (length-take (p .walk .count) (p .list)) (omega arith) in
+verdict-found us w list end (completes e few number same once rounds) =
     let different : (u : ℕ) → times u us ≤ 1 = λ u. rw (← same (λ x. one (eqb x u))) (once u) in
     record {
       ends = end;
@@ -70,46 +67,46 @@ judged family tags us p end (completes e few same once rounds) b =
       different = λ c. different;
       completes = λ n d. e;
       each-once = λ c u. same (λ x. one (eqb x u));
+      count = λ c. number;
       rounds = λ c. rounds;
       rounds-most = λ c. let half : sharedTails us ≤ 15 * (length us / 2) = shared-tails-half us in omega arith;
       alike = λ n d. absurd (d different);
       many = λ n d. absurd (omega arith);
+      twins-alike = λ c. absurd (omega arith);
+      full-many = λ c. absurd (omega arith);
       no-overrun = omega arith;
-      cards-left = cards-of family (p .walk) tags (p .tags) b;
-      memories-left = memories-of family (p .walk .level) (p .walk .mask) (p .walk .slot) tags (p .tags) b;
-      locks-left = locks-of family (p .walk .level) (p .walk .mask) (p .walk .slot) tags (p .tags) b;
     }
-judged family tags us p end (twin e u two) b =
+verdict-found us w list end (twin e u two) =
     record {
       ends = end;
       few = λ c. absurd (omega arith);
       different = λ c. absurd (omega arith);
       completes = λ n d. let once : times u us ≤ 1 = d u in absurd (omega arith);
       each-once = λ c. absurd (omega arith);
+      count = λ c. absurd (omega arith);
       rounds = λ c. absurd (omega arith);
       rounds-most = λ c. absurd (omega arith);
       alike = λ n d. e;
       many = λ n d. e;
+      twins-alike = λ c. (u, two);
+      full-many = λ c. absurd (omega arith);
       no-overrun = omega arith;
-      cards-left = cards-of family (p .walk) tags (p .tags) b;
-      memories-left = memories-of family (p .walk .level) (p .walk .mask) (p .walk .slot) tags (p .tags) b;
-      locks-left = locks-of family (p .walk .level) (p .walk .mask) (p .walk .slot) tags (p .tags) b;
     }
-judged family tags us p end (fills e many) b =
+verdict-found us w list end (fills e many) =
     record {
       ends = end;
       few = λ c. absurd (omega arith);
       different = λ c. absurd (omega arith);
       completes = λ n d. absurd (omega arith);
       each-once = λ c. absurd (omega arith);
+      count = λ c. absurd (omega arith);
       rounds = λ c. absurd (omega arith);
       rounds-most = λ c. absurd (omega arith);
       alike = λ n d. absurd (omega arith);
       many = λ n d. absurd (d e);
+      twins-alike = λ c. absurd (omega arith);
+      full-many = λ c. many;
       no-overrun = omega arith;
-      cards-left = cards-of family (p .walk) tags (p .tags) b;
-      memories-left = memories-of family (p .walk .level) (p .walk .mask) (p .walk .slot) tags (p .tags) b;
-      locks-left = locks-of family (p .walk .level) (p .walk .mask) (p .walk .slot) tags (p .tags) b;
     }
 
 -- a walk can't hear for more than 16 × 481 slots
@@ -117,7 +114,13 @@ ends : (family : ℕ) (tags : List Tag) (us : List ℕ) (n : ℕ) (p : Play) →
 ends family tags us n p h (hears g s e f room count b) =
     let most : p .walk .rounds ≤ 481 = g .walks .steady .accepted .last-round in
     absurd (omega (arith, most, count, s, h))
-ends family tags us n p h (rests a r v b) = judged family tags us p r v b
+ends family tags us n p h (rests a r v b) =
+    record {
+      found = verdict-found us (p .walk) (p .list) r v;
+      cards-left = cards-of family (p .walk) tags (p .tags) b;
+      memories-left = memories-of family (p .walk .level) (p .walk .mask) (p .walk .slot) tags (p .tags) b;
+      locks-left = locks-of family (p .walk .level) (p .walk .mask) (p .walk .slot) tags (p .tags) b;
+    }
 
 pub walk-of-a-field : demand3
 unfolding demand3
@@ -125,3 +128,19 @@ walk-of-a-field family tags list room obey places room-fits =
     ends family tags (answering family tags) (0 + 16 * 481) (playedFor (16 * 481) (fresh family list room tags)) (omega arith)
     (stage-for family tags (16 * 481) 0 (fresh family list room tags) obey (uids-fit family tags obey)
     (stage-fresh family tags (answering family tags) list room obey places room-fits))
+
+-- ---- the round count
+
+runs-counted : (family : ℕ) (tags : List Tag) (us : List ℕ) (n : ℕ) (p : Play) → Stage family tags us n p → isRunning (p .walk) ≡ true
+    → 16 * p .walk .rounds + p .walk .slot ≡ 16 + n
+runs-counted family tags us n p (hears g s e f room count b) running = count
+runs-counted family tags us n p (rests a r v b) running = absurd (false≢true (sym r ∙ running))
+
+pub rounds-of-a-field : roundsCounted
+unfolding roundsCounted
+rounds-of-a-field family tags list room obey places room-fits n =
+    let p : Play = fresh family list room tags in
+    let stage : Stage family tags (answering family tags) (0 + n) (playedFor n p) =
+    stage-for family tags n 0 p obey (uids-fit family tags obey) (stage-fresh family tags (answering family tags) list room obey places room-fits) in
+    runs-counted family tags (answering family tags) n (playedFor n p)
+    (subst (λ (k : ℕ). Stage family tags (answering family tags) k (playedFor n p)) (zero-add n) stage)

@@ -9,23 +9,17 @@ use lib.ListN.{length, take}
 use Rattle.tails.specs.Tails.{ending}
 use Rattle.walk.specs.declared.Walk.{Walk}
 use Rattle.walk.specs.Marks.{levels, waits, withMark, withoutMark, lowestFrom, lowest, deepestOf, deepest}
-use Rattle.walk.specs.Record.{places, mostRounds, maskLength, complete, isRunning, remade, ended, counted, marked, atNextSlot, openedMask, openedAt, opened, noMarks, started}
+use Rattle.walk.specs.Record.{places, mostRounds, maskLength, isRunning, remade, ended, counted, marked, atNextSlot, openedMask, openedAt, opened, noMarks, started}
 use Rattle.walk.specs.Hear.{endsAtOnce, noted, listNoted, turned, passed, walkAfter, listAfter}
 use Rattle.field.specs.Field.{Tag, answering}
 use Rattle.field.specs.Played.{playedFor, fresh}
-use Rattle.field.specs.Demand.{AllObey, listed}
+use Rattle.field.specs.Found.{listed}
+use Rattle.field.specs.Demand.{AllObey}
+use Rattle.field.specs.Examples.{three, threeEnd, FieldOfThree}
 use Rattle.field.proofs.Called.{called, slotOf}
 use Rattle.field.proofs.Stages.{stage-fresh}
 use Rattle.field.proofs.Demand3.{uids-fit}
 use Rattle.field.proofs.Stood.{Stand, stood, stoodFor, stood-more, stood-ended, standOf, played-stood}
-
-abbrev pub three : List ℕ
-three = 0xe004010000000011 ∷ 0xe004010000000021 ∷ 0xe004010000000005 ∷ []
-
--- the walk at its end
-abbrev pub threeEnd : ℕ → Walk
-threeEnd family =
-    record { mask = 1; marks = noMarks; rounds = 2; family = family; level = 1; slot = 15; count = 3; ending = complete }
 
 three-stood : (family a b c : ℕ) (list : List ℕ)
     → stoodFor three 32 (record { walk = started family; list = a ∷ b ∷ c ∷ list })
@@ -46,14 +40,6 @@ three-ends family [] h = absurd (omega arith)
 three-ends family (a ∷ []) h = absurd (omega arith)
 three-ends family (a ∷ b ∷ []) h = absurd (omega arith)
 three-ends family (a ∷ b ∷ c ∷ list) h = ap (λ (s : Stand). s .walk) (three-stood family a b c list)
-
--- "E004010000000011, E004010000000021, E004010000000005": what the walk over any cards with these UIDs comes to
-pub record FieldOfThree : Type 0 where
-  pub ends : (family : ℕ) (tags : List Tag) (list room : List ℕ) → AllObey tags → 64 ≤ length list → 14 ≤ length room
-      → answering family tags ≡ three → playedFor (16 * 481) (fresh family list room tags) .walk ≡ threeEnd family
-  pub lists : (family : ℕ) (tags : List Tag) (list room : List ℕ) → AllObey tags → 64 ≤ length list → 14 ≤ length room
-      → answering family tags ≡ three
-      → listed (playedFor (16 * 481) (fresh family list room tags)) ≡ 0xe004010000000005 ∷ 0xe004010000000011 ∷ 0xe004010000000021 ∷ []
 
 three-rests : (family : ℕ) → isRunning (threeEnd family) ≡ false
 unfolding isRunning

@@ -5,7 +5,7 @@ use Prim.Native.Nat.{ℕ, suc, _+_, _≤_, _<_}
 use mathlib.Core.List.{List}
 use lib.ListN.{length, take}
 use Rattle.tails.specs.Sum.{tally, times}
-use Rattle.tails.specs.Tails.{ending, sharedTails}
+use Rattle.tails.specs.Tails.{sharedTails}
 use Rattle.walk.specs.declared.Walk.{Walk}
 use Rattle.walk.specs.declared.Slot.{Slot}
 use Rattle.walk.specs.declared.Slot.the-variants.{Silent, Clashed, Clean}
@@ -15,7 +15,7 @@ use Rattle.field.proofs.FixedField.{Fixed}
 
 -- what an ended walk says of the UIDs us
 pub data Verdict (us : List ℕ) (w : Walk) (list : List ℕ) : Type 0 where
-  completes : w .ending ≡ complete → w .count ≤ 64 → ((v : ℕ → ℕ) → tally v (take (w .count) list) ≡ tally v us)
+  completes : w .ending ≡ complete → w .count ≤ 64 → w .count ≡ length us → ((v : ℕ → ℕ) → tally v (take (w .count) list) ≡ tally v us)
       → ((u : ℕ) → times u (take (w .count) list) ≤ 1) → w .rounds ≡ 1 + sharedTails us → Verdict us w list
   twin : w .ending ≡ twins → (u : ℕ) → 2 ≤ times u us → Verdict us w list
   fills : w .ending ≡ full → 64 < length us → Verdict us w list

@@ -46,6 +46,11 @@ opens-after us w x list h g k r e j d f =
 listed-few : (x : Walk) (list : List ℕ) → x .count ≤ 64 → length (take (x .count) list) ≤ 64
 listed-few x list h = rw (length-take (x .count) list) (omega arith)
 
+-- the list has room for all that are counted
+listed-number : (us : List ℕ) (t : ℕ) (x : Walk) (list : List ℕ) → Fixed us x list t → tally (λ u. 1) (take (x .count) list) ≡ x .count
+listed-number us t x list g =
+    tally-one (take (x .count) list) ∙ length-take-le (x .count) list (omega (arith, g .walks .steady .accepted .count, g .walks .places-fit))
+
 -- a round is over and nothing waits
 completes-after : (us : List ℕ) (w x : Walk) (list : List ℕ) → Fixed us x list 16 → Kept w x → deepest (x .marks) ≡ 0 → Next us w (ended complete x) list
 unfolding ended remade
@@ -53,6 +58,7 @@ completes-after us w x list g k d =
     let ls : List ℕ = take (x .count) list in
     let verdict : Verdict us (ended complete x) list =
     completes refl (g .walks .steady .accepted .count)
+    (omega (arith, g .weighed (λ u. 1), ahead-none (weigh (λ u. 1) us) x d, listed-number us 16 x list g, tally-one us))
     (λ v. let none = ahead-none (weigh v us) x d in omega (arith, none, g .weighed v))
     (λ u. let most : times u ls + ahead (alone u) x 16 ≤ 1 = g .walks .single u in omega arith)
     (let none = ahead-none (belowAt us) x d in omega (arith, none, g .tails)) in
@@ -90,8 +96,7 @@ fills-at us x w list h g c m =
     let all : tally v (take (w .count) list) + ahead (weigh v us) w (w .slot) ≡ tally v us = g .weighed v in
     let heard = ahead-hear (weigh v us) w (w .slot) h in
     let weight : weigh v us (suc (w .level)) (slotTail (w .level) (w .mask) (w .slot)) ≡ 1 = slot-weight v us (x ∷ []) w c in
-    let listed : tally v (take (w .count) list) ≡ w .count =
-    tally-one (take (w .count) list) ∙ length-take-le (w .count) list (let few = g .walks .steady .accepted .count in let many = g .walks .places-fit in omega (arith, few, many)) in
+    let listed : tally v (take (w .count) list) ≡ w .count = listed-number us (w .slot) w list g in
     let number : tally v us ≡ length us = tally-one us in
     stops g (kept w) 2 refl (fills refl (omega (arith, all, heard, weight, listed, number)))
 

@@ -23,7 +23,8 @@ pub record Tag : Type 0 where
   pub locks : List ℕ
   pub room : List ℕ
 
--- "card records that number 1 accepts, with memory, locks and room that 2, 3 and 4 accept"; a UID has 64 bits
+-- "cards that obey demand 2": those that a call serves, whose record, memory, lock bytes and room none of the numbers 1 to 4 refuses; a UID has 64
+-- bits
 pub record Obeys (t : Tag) : Type 0 where
   pub accepted : refusal (t .card) (length (t .memory)) (t .locks) (length (t .room)) ≡ 0
   pub uid-fits : t .card .uid < 2 ^ 64

@@ -1,4 +1,7 @@
 pub mod Field
+pub mod Answering
 pub mod Played
+pub mod Found
 pub mod Replies
 pub mod Demand
+pub mod Examples

@@ -1,14 +1,15 @@
 -- 01, The walk, over any replies, true or false: "No UID is listed twice in a walk, even with false replies."
-use Prim.Native.Nat.{ℕ, _*_, _≤_}
+use Prim.Native.Nat.{ℕ, _+_, _*_, _≤_}
 use mathlib.Core.Bool.{true, false}
 use mathlib.Core.List.{List, [], _∷_}
 use mathlib.Core.Path.{_≡_}
-use lib.ListN.{length, take}
+use lib.ListN.{length}
 use Rattle.tails.specs.Sum.{times}
 use Rattle.walk.specs.declared.Walk.{Walk}
 use Rattle.walk.specs.Record.{isAccepted, isRunning, started}
 use Rattle.walk.specs.Hear.{Hearing, hearing}
 use Rattle.field.specs.Field.{Arrival}
+use Rattle.field.specs.Found.{listed}
 
 -- a walk with its list
 pub record Walked : Type 0 where
@@ -30,7 +31,9 @@ pub record Holds (n : ℕ) (p : Walked) : Type 0 where
   -- number 10 accepts the record
   pub accepted : isAccepted (p .walk) ≡ true
   -- "No UID is listed twice"
-  pub once : (u : ℕ) → times u (take (p .walk .count) (p .list)) ≤ 1
+  pub once : (u : ℕ) → times u (listed (p .walk) (p .list)) ≤ 1
+  -- "The round count stands in the walk and equals the rounds of the definition.": sixteen slots each
+  pub counted : isRunning (p .walk) ≡ true → 16 * p .walk .rounds + p .walk .slot ≡ 16 + n
   -- the walk has ended after 16 × 481 slots
   pub ends : 16 * 481 ≤ n → isRunning (p .walk) ≡ false
 

@@ -11,7 +11,8 @@ use Rattle.walk.specs.Record.{places, mostRounds, maskLength, isRunning, remade
 use Rattle.walk.specs.Hear.{endsAtOnce, noted, listNoted, turned, passed, walkAfter, listAfter}
 use Rattle.field.proofs.Called.{called, slotOf}
 use Rattle.field.proofs.Stood.{stood}
-use Rattle.field.proofs.Examples.{three, threeEnd, field-of-three}
+use Rattle.field.specs.Examples.{three, threeEnd}
+use Rattle.field.proofs.Examples.{field-of-three}
 use Rattle.row.specs.Row.{Played, noBytes}
 use Rattle.row.specs.Play.{noUids, mostSlots, ended}
 use Rattle.row.proofs.SlotsAlike.{benchOf}

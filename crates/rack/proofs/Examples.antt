@@ -8,8 +8,9 @@ use lib.ListN.{take}
 use Rattle.walk.specs.declared.Walk.{Walk}
 use Rattle.field.specs.Played.{Play}
 use Rattle.field.specs.Played as field
-use Rattle.field.specs.Demand.{listed}
-use Rattle.field.proofs.Examples.{three, threeEnd, field-of-three}
+use Rattle.field.specs.Found.{listed}
+use Rattle.field.specs.Examples.{three, threeEnd}
+use Rattle.field.proofs.Examples.{field-of-three}
 use Rattle.row.specs.Row.{Played, noBytes}
 use Rattle.row.specs.Play.{noUids, mostSlots, ended}
 use Rattle.row.proofs.SlotsAlike.{benchOf}
@@ -41,7 +42,7 @@ report-three : (list : List ℕ) → take 3 list ≡ 0xe004010000000005 ∷ 0xe0
 unfolding report heading verdictLine word decimal digit hexDigits uidLines
 report-three list e = rw e refl
 
-report-played : (p : Play) → p .walk ≡ threeEnd 256 → listed p ≡ 0xe004010000000005 ∷ 0xe004010000000011 ∷ 0xe004010000000021 ∷ []
+report-played : (p : Play) → p .walk ≡ threeEnd 256 → listed (p .walk) (p .list) ≡ 0xe004010000000005 ∷ 0xe004010000000011 ∷ 0xe004010000000021 ∷ []
     → report (benchOf p .desk) ≡ threePrinted
 unfolding benchOf listed
 report-played p ends lists =

@@ -10,14 +10,15 @@ use Rattle.card.specs.Record.{shapeFits, sequenceFits, heldFits, isAccepted}
 use Rattle.field.specs.Field.{Tag, Obeys, listens, familyFits, answers, answering}
 use Rattle.field.specs.Played.{Play, fresh}
 use Rattle.field.specs.Played as field
-use Rattle.field.specs.Demand.{listed, AllObey, none, more, cards, Demand3, demand3}
+use Rattle.field.specs.Found.{Found}
+use Rattle.field.specs.Demand.{AllObey, none, more, cards, Demand3, demand3}
 use Rattle.field.proofs.InStep.{byte-served}
 use Rattle.field.proofs.Stages.{stage-fresh}
 use Rattle.field.proofs.Demand3.{uids-fit, walk-of-a-field}
 use Rattle.row.specs.declared.Desk.{Desk}
 use Rattle.row.specs.Row.{Played, cardOf, cardsOf, noBytes, playedFor}
 use Rattle.row.specs.Play.{noUids, freshDesk, mostSlots, ended}
-use Rattle.row.specs.Meaning.{cardLines, Meaning, meaning}
+use Rattle.row.specs.Meaning.{Meaning, meaning}
 use Rattle.row.proofs.SlotsAlike.{benchOf, played-alike}
 
 -- ---- the bench's cards as a field
@@ -80,22 +81,6 @@ bench-is-a-field us h n =
 
 -- ---- what demand 3 says of it
 
-of-demand : (us : List ℕ) (tags : List Tag) (p : Play) → Demand3 256 tags us p → Meaning us (benchOf p .desk)
-unfolding benchOf cardLines listed
-of-demand us tags p d =
-    record {
-      ends = d .ends;
-      few = d .few;
-      different = d .different;
-      completes = d .completes;
-      each-once = d .each-once;
-      rounds = d .rounds;
-      rounds-most = d .rounds-most;
-      alike = d .alike;
-      many = d .many;
-      no-overrun = d .no-overrun;
-    }
-
 field-demand : (us : List ℕ) → ((i : ℕ) → getD us i 0 < 2 ^ 64) → Demand3 256 (tagsOf us) us (field.playedFor (16 * 481) (freshField us))
 unfolding freshField noUids noBytes demand3
 field-demand us h =
@@ -103,8 +88,7 @@ field-demand us h =
     (walk-of-a-field 256 (tagsOf us) noUids noBytes (tags-obey us h) (omega arith) (omega arith))
 
 pub bench-meets-demand3 : meaning
-unfolding meaning ended mostSlots
+unfolding meaning Meaning ended mostSlots benchOf
 bench-meets-demand3 us h =
-    let p : Play = field.playedFor (16 * 481) (freshField us) in
-    subst (λ (d : Desk). Meaning us d) (sym (ap (λ (q : Played). q .desk) (bench-is-a-field us h (16 * 481))))
-    (of-demand us (tagsOf us) p (field-demand us h))
+    subst (λ (d : Desk). Found us (d .walk) (d .list)) (sym (ap (λ (q : Played). q .desk) (bench-is-a-field us h (16 * 481))))
+    (field-demand us h .found)
