@@ -1,3 +1,5 @@
 pub mod Places
+pub mod Changes
+pub mod Accepted
 pub mod Unique
 pub mod Examples

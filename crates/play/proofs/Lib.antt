@@ -6,9 +6,10 @@ pub mod Answers
 pub mod Blocks
 pub mod Brief
 pub mod Room
-pub mod Deeds
-pub mod Decided
+pub mod Kept
 pub mod Turns
+pub mod Deeds
+pub mod Refusals
 pub mod ReadyFor
 pub mod EventWays
 pub mod Unique

@@ -1,5 +1,7 @@
 pub mod Verdicts
 pub mod Modes
 pub mod Rules
+pub mod Forms
+pub mod Keeps
 pub mod Unique
 pub mod Examples
