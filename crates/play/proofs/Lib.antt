@@ -12,5 +12,7 @@ pub mod Deeds
 pub mod Refusals
 pub mod ReadyFor
 pub mod EventWays
+pub mod Outcomes
+pub mod Stays
 pub mod Unique
 pub mod Examples
