@@ -1,5 +1,6 @@
 mod Told
 mod Ways
+mod ReadBack
 pub mod Unique
 mod Records
 mod Numbers

@@ -13,6 +13,7 @@ pub mod Refusals
 pub mod ReadyFor
 pub mod EventWays
 pub mod Outcomes
+pub mod EventKeeps
 pub mod Stays
 pub mod Unique
 pub mod Examples

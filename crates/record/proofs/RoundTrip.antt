@@ -3,7 +3,7 @@
 use mathlib.Core.Path.{_≡_, refl, ap, _∙_}
 use mathlib.Core.Bool.{Bool, true, false}
 use mathlib.Core.List.{List, _++_}
-use Prim.Native.Nat.{ℕ, _+_, _^_, _≤_, _<_}
+use Prim.Native.Nat.{ℕ, _+_, _≤_}
 use native.Mathlib.Omega.{arith}
 use borrow.Author.Tests.{eq-eqb, ne-eqb}
 use lib.ListN.{length, take, drop}
@@ -21,15 +21,8 @@ use Rattle.card.specs.declared.Sequence.the-variants.{Idle, Running}
 use Rattle.card.specs.declared.Held.{Held}
 use Rattle.card.specs.declared.Held.the-variants.{Free, Success, Code}
 use Rattle.record.specs.Record.{flagOf, modeOf, sequenceOf, heldOf, cardOf, flagByte, modeByte, fieldsOf, heldByte, stateBytes, frontBytes, recordOf, recordLength, cardRead, writeLeaves}
+use Rattle.record.specs.Fits.{Fits}
 use Rattle.record.proofs.Putting.{length-front}
-
--- the numbers fit their fields; the bytes 0 and 1 hold no code
-pub record Fits (c : Card) : Type 0 where
-  pub uid : c .uid < 256 ^ 8
-  pub blocks : c .blocks < 256 ^ 4
-  pub size : c .size < 256 ^ 4
-  pub mask : fieldsOf (c .sequence) .mask < 256 ^ 8
-  pub code : (code : ℕ) → c .held ≡ Code code → 2 ≤ code
 
 flag-back : (b : Bool) → flagOf (flagByte b) ≡ b
 unfolding flagOf flagByte
@@ -108,7 +101,7 @@ module _ (c : Card) (found : List ℕ) (is : length found ≡ 40) where
         held = held-back (c .held) (fits .code) i;
       }
 
-  length-record : length (recordOf c found) ≡ 40
+  pub length-record : length (recordOf c found) ≡ 40
   unfolding recordOf
   length-record =
       let m : List ℕ = fieldBytes 8 (fieldsOf (c .sequence) .mask) in
