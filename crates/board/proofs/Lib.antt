@@ -1,6 +1,7 @@
 mod Told
 mod Ways
-mod ReadBack
+pub mod CardCalls
+pub mod ReadBack
 pub mod Unique
 mod Records
 mod Numbers

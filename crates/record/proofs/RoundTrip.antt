@@ -109,7 +109,11 @@ module _ (c : Card) (found : List ℕ) (is : length found ≡ 40) where
       let all : length (over (frontBytes c) found) ≡ length found = length-over (frontBytes c) found (omega (arith, length-front c)) in
       length-placed 32 m (over (frontBytes c) found) (omega arith) ∙ all ∙ is
 
-  -- the same of the two calls
+  -- the same of the calls
+  pub read-of-record : Fits c → cardRead (recordOf c found) ≡ c
+  unfolding cardRead recordLength
+  read-of-record fits = rw (eq-eqb (length (recordOf c found)) 40 length-record) (card-of-record fits)
+
   pub read-of-write : Fits c → cardRead (writeLeaves c found) ≡ c
-  unfolding cardRead writeLeaves recordLength
-  read-of-write fits = rw (eq-eqb (length found) 40 is, eq-eqb (length (recordOf c found)) 40 length-record) (card-of-record fits)
+  unfolding writeLeaves recordLength
+  read-of-write fits = rw (eq-eqb (length found) 40 is) (read-of-record fits)
