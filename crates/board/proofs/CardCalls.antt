@@ -31,18 +31,21 @@ called-settled bytes memory locks found o refuses = go (eqb (length bytes) recor
     go true = refl
     go false = sym (ap (λ (u : Outcome). settled u bytes) refuses)
 
-module _ (bytes memory locks found : List ℕ) where
-  pub frame-call : (frame : List ℕ) → frameCall bytes frame memory locks found ≡ settled (frameEvent (cardRead bytes) frame memory locks found) bytes
-  unfolding frameCall frameEvent
-  frame-call frame = called-settled bytes memory locks found (λ (c : Card). frameEvent c frame memory locks found) (no-card-refused memory locks found _)
+pub frame-call : (bytes frame memory locks found : List ℕ)
+    → frameCall bytes frame memory locks found ≡ settled (frameEvent (cardRead bytes) frame memory locks found) bytes
+unfolding frameCall frameEvent
+frame-call bytes frame memory locks found =
+    called-settled bytes memory locks found (λ (c : Card). frameEvent c frame memory locks found) (no-card-refused memory locks found _)
 
-  pub mark-call : markCall bytes memory locks found ≡ settled (markEvent (cardRead bytes) memory locks found) bytes
-  unfolding markCall markEvent
-  mark-call = called-settled bytes memory locks found (λ (c : Card). markEvent c memory locks found) (no-card-refused memory locks found _)
+pub mark-call : (bytes memory locks found : List ℕ) → markCall bytes memory locks found ≡ settled (markEvent (cardRead bytes) memory locks found) bytes
+unfolding markCall markEvent
+mark-call bytes memory locks found =
+    called-settled bytes memory locks found (λ (c : Card). markEvent c memory locks found) (no-card-refused memory locks found _)
 
-  pub off-call : offCall bytes memory locks found ≡ settled (offEvent (cardRead bytes) memory locks found) bytes
-  unfolding offCall offEvent
-  off-call = called-settled bytes memory locks found (λ (c : Card). offEvent c memory locks found) (no-card-refused memory locks found _)
+pub off-call : (bytes memory locks found : List ℕ) → offCall bytes memory locks found ≡ settled (offEvent (cardRead bytes) memory locks found) bytes
+unfolding offCall offEvent
+off-call bytes memory locks found =
+    called-settled bytes memory locks found (λ (c : Card). offEvent c memory locks found) (no-card-refused memory locks found _)
 
 -- ---- what its bytes are
 

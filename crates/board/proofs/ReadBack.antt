@@ -45,79 +45,74 @@ module _ (bytes memory locks found : List ℕ) (o : Outcome) where
         (accepted-fits (o .card) (next a) (rw (f .kept .uid) (numbers-read bytes bs .uid))))
         refl
 
-    bytes-left : Numbers (o .card) → Bytes (settled o bytes .bytes)
-    bytes-left n =
-        left-by bytes memory locks found o (f .number) (f .refuses) (λ (left : List ℕ) (c : Card). Bytes left)
-        (λ a. record-bytes (o .card) bytes (next a) n bs) bs
+    left-bytes : Numbers (o .card) → Bytes (settled o bytes .bytes) × (length (settled o bytes .bytes) ≡ length bytes)
+    left-bytes n =
+        left-by bytes memory locks found o (f .number) (f .refuses) (λ (left : List ℕ) (c : Card). Bytes left × (length left ≡ length bytes))
+        (λ a. let is = served-length bytes memory locks found a in (record-bytes (o .card) bytes (next a) n bs, length-record (o .card) bytes is ∙ sym is))
+        (bs, refl)
 
-    length-left : length (settled o bytes .bytes) ≡ length bytes
-    length-left =
-        left-by bytes memory locks found o (f .number) (f .refuses) (λ (left : List ℕ) (c : Card). length left ≡ length bytes)
-        (λ a. let is = served-length bytes memory locks found a in length-record (o .card) bytes is ∙ sym is) refl
+-- ---- the outcomes of the three events
 
--- ---- the three calls
+frame-follows : (bytes frame memory locks found : List ℕ) → Follows bytes memory locks found (frameEvent (cardRead bytes) frame memory locks found)
+frame-follows bytes frame memory locks found =
+    record {
+      number = frame-number (cardRead bytes) frame memory locks found;
+      refuses = frame-refused (cardRead bytes) frame memory locks found;
+      accepted = frame-event-keeps (cardRead bytes) frame memory locks found (accepted-changes frame);
+      kept = frame-kept (cardRead bytes) frame memory locks found;
+    }
 
-module _ (bytes memory locks found : List ℕ) where
-  abbrev c : Card
-  c = cardRead bytes
+mark-follows : (bytes memory locks found : List ℕ) → Follows bytes memory locks found (markEvent (cardRead bytes) memory locks found)
+mark-follows bytes memory locks found =
+    record {
+      number = mark-number (cardRead bytes) memory locks found;
+      refuses = mark-refused (cardRead bytes) memory locks found;
+      accepted = mark-event-keeps (cardRead bytes) memory locks found (accepted-changes []);
+      kept = mark-kept (cardRead bytes) memory locks found;
+    }
 
-  frame-follows : (frame : List ℕ) → Follows bytes memory locks found (frameEvent c frame memory locks found)
-  frame-follows frame =
-      record {
-        number = frame-number c memory locks found frame;
-        refuses = frame-refused c memory locks found frame;
-        accepted = frame-event-keeps c memory locks found frame (accepted-changes frame);
-        kept = frame-kept c memory locks found frame;
-      }
+off-follows : (bytes memory locks found : List ℕ) → Follows bytes memory locks found (offEvent (cardRead bytes) memory locks found)
+off-follows bytes memory locks found =
+    record {
+      number = off-number (cardRead bytes) memory locks found;
+      refuses = off-refused (cardRead bytes) memory locks found;
+      accepted = off-event-keeps (cardRead bytes) memory locks found (accepted-changes []);
+      kept = off-kept (cardRead bytes) memory locks found;
+    }
 
-  mark-follows : Follows bytes memory locks found (markEvent c memory locks found)
-  mark-follows =
-      record {
-        number = mark-number c memory locks found;
-        refuses = mark-refused c memory locks found;
-        accepted = mark-event-keeps c memory locks found (accepted-changes []);
-        kept = mark-kept c memory locks found;
-      }
+-- ---- the card is read back
 
-  off-follows : Follows bytes memory locks found (offEvent c memory locks found)
-  off-follows =
-      record {
-        number = off-number c memory locks found;
-        refuses = off-refused c memory locks found;
-        accepted = off-event-keeps c memory locks found (accepted-changes []);
-        kept = off-kept c memory locks found;
-      }
+pub frame-reads-back : (bytes frame memory locks found : List ℕ) → Bytes bytes
+    → cardRead (frameCall bytes frame memory locks found .bytes) ≡ frameEvent (cardRead bytes) frame memory locks found .card
+frame-reads-back bytes frame memory locks found bs =
+    rw (frame-call bytes frame memory locks found) (card-back bytes memory locks found _ (frame-follows bytes frame memory locks found) bs)
 
-  module _ (bs : Bytes bytes) where
-    -- the card is read back
-    pub frame-reads-back : (frame : List ℕ) → cardRead (frameCall bytes frame memory locks found .bytes) ≡ frameEvent (cardRead bytes) frame memory locks found .card
-    frame-reads-back frame = rw (frame-call bytes memory locks found frame) (card-back bytes memory locks found _ (frame-follows frame) bs)
+pub mark-reads-back : (bytes memory locks found : List ℕ) → Bytes bytes
+    → cardRead (markCall bytes memory locks found .bytes) ≡ markEvent (cardRead bytes) memory locks found .card
+mark-reads-back bytes memory locks found bs =
+    rw (mark-call bytes memory locks found) (card-back bytes memory locks found _ (mark-follows bytes memory locks found) bs)
 
-    pub mark-reads-back : cardRead (markCall bytes memory locks found .bytes) ≡ markEvent (cardRead bytes) memory locks found .card
-    mark-reads-back = rw (mark-call bytes memory locks found) (card-back bytes memory locks found _ mark-follows bs)
+pub off-reads-back : (bytes memory locks found : List ℕ) → Bytes bytes
+    → cardRead (offCall bytes memory locks found .bytes) ≡ offEvent (cardRead bytes) memory locks found .card
+off-reads-back bytes memory locks found bs =
+    rw (off-call bytes memory locks found) (card-back bytes memory locks found _ (off-follows bytes memory locks found) bs)
 
-    pub off-reads-back : cardRead (offCall bytes memory locks found .bytes) ≡ offEvent (cardRead bytes) memory locks found .card
-    off-reads-back = rw (off-call bytes memory locks found) (card-back bytes memory locks found _ off-follows bs)
+-- ---- from bytes, as many
 
-    -- from bytes, as many
-    pub frame-leaves-bytes : (frame : List ℕ) → Bytes frame
-        → Bytes (frameCall bytes frame memory locks found .bytes) × (length (frameCall bytes frame memory locks found .bytes) ≡ length bytes)
-    frame-leaves-bytes frame fs =
-        let numbers : Numbers (frameEvent c frame memory locks found .card) =
-        frame-event-keeps c memory locks found frame (numbers-changes frame fs) (numbers-read bytes bs) in
-        rw (frame-call bytes memory locks found frame)
-        (bytes-left bytes memory locks found _ (frame-follows frame) bs numbers, length-left bytes memory locks found _ (frame-follows frame) bs)
+pub frame-leaves-bytes : (bytes frame memory locks found : List ℕ) → Bytes bytes → Bytes frame
+    → Bytes (frameCall bytes frame memory locks found .bytes) × (length (frameCall bytes frame memory locks found .bytes) ≡ length bytes)
+frame-leaves-bytes bytes frame memory locks found bs fs =
+    let numbers = frame-event-keeps (cardRead bytes) frame memory locks found (numbers-changes frame fs) (numbers-read bytes bs) in
+    rw (frame-call bytes frame memory locks found) (left-bytes bytes memory locks found _ (frame-follows bytes frame memory locks found) bs numbers)
 
-    pub mark-leaves-bytes : Bytes (markCall bytes memory locks found .bytes) × (length (markCall bytes memory locks found .bytes) ≡ length bytes)
-    mark-leaves-bytes =
-        let numbers : Numbers (markEvent c memory locks found .card) =
-        mark-event-keeps c memory locks found (numbers-changes [] bytes-none) (numbers-read bytes bs) in
-        rw (mark-call bytes memory locks found)
-        (bytes-left bytes memory locks found _ mark-follows bs numbers, length-left bytes memory locks found _ mark-follows bs)
+pub mark-leaves-bytes : (bytes memory locks found : List ℕ) → Bytes bytes
+    → Bytes (markCall bytes memory locks found .bytes) × (length (markCall bytes memory locks found .bytes) ≡ length bytes)
+mark-leaves-bytes bytes memory locks found bs =
+    let numbers = mark-event-keeps (cardRead bytes) memory locks found (numbers-changes [] bytes-none) (numbers-read bytes bs) in
+    rw (mark-call bytes memory locks found) (left-bytes bytes memory locks found _ (mark-follows bytes memory locks found) bs numbers)
 
-    pub off-leaves-bytes : Bytes (offCall bytes memory locks found .bytes) × (length (offCall bytes memory locks found .bytes) ≡ length bytes)
-    off-leaves-bytes =
-        let numbers : Numbers (offEvent c memory locks found .card) =
-        off-event-keeps c memory locks found (numbers-changes [] bytes-none) (numbers-read bytes bs) in
-        rw (off-call bytes memory locks found)
-        (bytes-left bytes memory locks found _ off-follows bs numbers, length-left bytes memory locks found _ off-follows bs)
+pub off-leaves-bytes : (bytes memory locks found : List ℕ) → Bytes bytes
+    → Bytes (offCall bytes memory locks found .bytes) × (length (offCall bytes memory locks found .bytes) ≡ length bytes)
+off-leaves-bytes bytes memory locks found bs =
+    let numbers = off-event-keeps (cardRead bytes) memory locks found (numbers-changes [] bytes-none) (numbers-read bytes bs) in
+    rw (off-call bytes memory locks found) (left-bytes bytes memory locks found _ (off-follows bytes memory locks found) bs numbers)

@@ -37,39 +37,42 @@ module _ (c : Card) (memory locks found : List ℕ) where
       go true e = h (eqb-true n 0 e)
       go false e = q
 
-  pub frame-number : (frame : List ℕ) → frameEvent c frame memory locks found .number ≡ refusal c (length memory) locks (length found)
+pub frame-number : (c : Card) (frame memory locks found : List ℕ) → frameEvent c frame memory locks found .number ≡ refusal c (length memory) locks (length found)
+unfolding frameEvent carriedOut replied
+frame-number c frame memory locks found = number-of c memory locks found _ refl
+
+pub mark-number : (c : Card) (memory locks found : List ℕ) → markEvent c memory locks found .number ≡ refusal c (length memory) locks (length found)
+unfolding markEvent replied
+mark-number c memory locks found = number-of c memory locks found _ refl
+
+pub off-number : (c : Card) (memory locks found : List ℕ) → offEvent c memory locks found .number ≡ refusal c (length memory) locks (length found)
+unfolding offEvent replied
+off-number c memory locks found = number-of c memory locks found _ refl
+
+-- ---- what each change keeps
+
+module _ {Q : Card → Type 0} where
+  pub frame-event-keeps : (c : Card) (frame memory locks found : List ℕ) → Changes Q frame → Q c → Q (frameEvent c frame memory locks found .card)
   unfolding frameEvent carriedOut replied
-  frame-number frame = number-of _ refl
+  frame-event-keeps c frame memory locks found change q = card-of c memory locks found Q _ q (λ a. decided-keeps change c q locks)
 
-  pub mark-number : markEvent c memory locks found .number ≡ refusal c (length memory) locks (length found)
+  pub mark-event-keeps : (c : Card) (memory locks found : List ℕ) → Changes Q [] → Q c → Q (markEvent c memory locks found .card)
   unfolding markEvent replied
-  mark-number = number-of _ refl
+  mark-event-keeps c memory locks found change q =
+      card-of c memory locks found Q _ q
+      (λ a. marked-keeps change c q (tests-of c (passes-of c (length memory) locks (length found) a .accepted) .sequence))
 
-  pub off-number : offEvent c memory locks found .number ≡ refusal c (length memory) locks (length found)
+  pub off-event-keeps : (c : Card) (memory locks found : List ℕ) → Changes Q [] → Q c → Q (offEvent c memory locks found .card)
   unfolding offEvent replied
-  off-number = number-of _ refl
+  off-event-keeps c memory locks found change q = card-of c memory locks found Q _ q (λ a. off-keeps change c q)
 
-  module _ {Q : Card → Type 0} where
-    pub frame-event-keeps : (frame : List ℕ) → Changes Q frame → Q c → Q (frameEvent c frame memory locks found .card)
-    unfolding frameEvent carriedOut replied
-    frame-event-keeps frame change q = card-of Q _ q (λ a. decided-keeps change c q locks)
+-- ---- shape, UID and IC reference
 
-    pub mark-event-keeps : Changes Q [] → Q c → Q (markEvent c memory locks found .card)
-    unfolding markEvent replied
-    mark-event-keeps change q =
-        card-of Q _ q (λ a. marked-keeps change c q (tests-of c (passes-of c (length memory) locks (length found) a .accepted) .sequence))
+pub frame-kept : (c : Card) (frame memory locks found : List ℕ) → Kept c (frameEvent c frame memory locks found .card)
+frame-kept c frame memory locks found = frame-event-keeps c frame memory locks found (kept-changes c frame) (self-kept c)
 
-    pub off-event-keeps : Changes Q [] → Q c → Q (offEvent c memory locks found .card)
-    unfolding offEvent replied
-    off-event-keeps change q = card-of Q _ q (λ a. off-keeps change c q)
+pub mark-kept : (c : Card) (memory locks found : List ℕ) → Kept c (markEvent c memory locks found .card)
+mark-kept c memory locks found = mark-event-keeps c memory locks found (kept-changes c []) (self-kept c)
 
-  -- shape, UID and IC reference
-
-  pub frame-kept : (frame : List ℕ) → Kept c (frameEvent c frame memory locks found .card)
-  frame-kept frame = frame-event-keeps frame (kept-changes c frame) (self-kept c)
-
-  pub mark-kept : Kept c (markEvent c memory locks found .card)
-  mark-kept = mark-event-keeps (kept-changes c []) (self-kept c)
-
-  pub off-kept : Kept c (offEvent c memory locks found .card)
-  off-kept = off-event-keeps (kept-changes c []) (self-kept c)
+pub off-kept : (c : Card) (memory locks found : List ℕ) → Kept c (offEvent c memory locks found .card)
+off-kept c memory locks found = off-event-keeps c memory locks found (kept-changes c []) (self-kept c)

@@ -15,27 +15,27 @@ use Rattle.play.specs.Refusal.{refusal, Accepted}
 use Rattle.play.specs.Events.{lengthTold, answered, Outcome, replied, unserved, carriedOut, frameEvent, markEvent, offEvent}
 use Rattle.play.proofs.EventWays.{event-refused, event-served}
 
-module _ (c : Card) (memory locks found : List ℕ) where
-  abbrev number : ℕ
-  number = refusal c (length memory) locks (length found)
+-- ---- refused
 
-  pub frame-refused : (frame : List ℕ) → (Accepted c memory locks found → ⊥)
-      → frameEvent c frame memory locks found ≡ unserved c memory locks found (refusal c (length memory) locks (length found))
-  unfolding frameEvent
-  frame-refused frame h = event-refused c memory locks found _ number refl h
+pub frame-refused : (c : Card) (frame memory locks found : List ℕ) → (Accepted c memory locks found → ⊥)
+    → frameEvent c frame memory locks found ≡ unserved c memory locks found (refusal c (length memory) locks (length found))
+unfolding frameEvent
+frame-refused c frame memory locks found h = event-refused c memory locks found _ _ refl h
 
-  pub mark-refused : (Accepted c memory locks found → ⊥)
-      → markEvent c memory locks found ≡ unserved c memory locks found (refusal c (length memory) locks (length found))
-  unfolding markEvent
-  mark-refused h = event-refused c memory locks found _ number refl h
+pub mark-refused : (c : Card) (memory locks found : List ℕ) → (Accepted c memory locks found → ⊥)
+    → markEvent c memory locks found ≡ unserved c memory locks found (refusal c (length memory) locks (length found))
+unfolding markEvent
+mark-refused c memory locks found h = event-refused c memory locks found _ _ refl h
 
-  pub off-refused : (Accepted c memory locks found → ⊥)
-      → offEvent c memory locks found ≡ unserved c memory locks found (refusal c (length memory) locks (length found))
-  unfolding offEvent
-  off-refused h = event-refused c memory locks found _ number refl h
+pub off-refused : (c : Card) (memory locks found : List ℕ) → (Accepted c memory locks found → ⊥)
+    → offEvent c memory locks found ≡ unserved c memory locks found (refusal c (length memory) locks (length found))
+unfolding offEvent
+off-refused c memory locks found h = event-refused c memory locks found _ _ refl h
 
-  pub frame-damaged : (frame : List ℕ) → Accepted c memory locks found → isSound frame ≡ false
-      → _≡_ {A = Outcome} (frameEvent c frame memory locks found)
-      (record { card = cleared c; memory = memory; locks = locks; answer = found; number = 0; told = 0 })
-  unfolding frameEvent carriedOut replied memoryAfter locksAfter replyBytes answered lengthTold
-  frame-damaged frame a e = event-served c memory locks found _ number refl a ∙ rw (unsound-silent c locks frame e)
+-- ---- served, and damaged
+
+pub frame-damaged : (c : Card) (frame memory locks found : List ℕ) → Accepted c memory locks found → isSound frame ≡ false
+    → _≡_ {A = Outcome} (frameEvent c frame memory locks found)
+    (record { card = cleared c; memory = memory; locks = locks; answer = found; number = 0; told = 0 })
+unfolding frameEvent carriedOut replied memoryAfter locksAfter replyBytes answered lengthTold
+frame-damaged c frame memory locks found a e = event-served c memory locks found _ _ refl a ∙ rw (unsound-silent c locks frame e)

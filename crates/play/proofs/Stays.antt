@@ -79,7 +79,7 @@ locks-fit locks Leave h = h
 locks-fit locks (Write block place) h = h
 locks-fit locks (Lock block) h = set-fits locks block h
 
--- ---- the three events
+-- ---- what an event makes of the four tests
 
 module _ (card : Card) (memory locks found : List ℕ) (a : Accepted card memory locks found) where
   passes : Passes card (length memory) locks (length found)
@@ -103,33 +103,38 @@ module _ (card : Card) (memory locks found : List ℕ) (a : Accepted card memory
   event-next : (served : Outcome) → AcceptedNext served → AcceptedNext (event card memory locks found served)
   event-next served h = rw (event-served card memory locks found served (refusal card (length memory) locks (length found)) refl a) h
 
-  pub frame-stays : (frame : List ℕ) → AcceptedNext (frameEvent card frame memory locks found)
-  unfolding frameEvent carriedOut
-  frame-stays frame =
-      let d : Deed = decided card locks frame in
-      let ready : DeedReady frame d (length memory) (length locks) (length found) =
-      deed-ready card frame (length memory) locks (length found) (refusal card (length memory) locks (length found)) d refl a refl in
-      event-next _
-      (replied-next (d .card) _ _ (d .reply)
-      (decided-keeps (kept-changes card frame) card (self-kept card) locks)
-      (decided-keeps (accepted-changes frame) card (passes .accepted) locks)
-      (length-memory (d .card) frame memory (d .effect) (ready .effect) (ready .ready .stored))
-      (length-locks locks (d .effect))
-      (locks-fit locks (d .effect) (passes .marks))
-      (ready .reply))
+-- ---- the three events
 
-  pub mark-stays : AcceptedNext (markEvent card memory locks found)
-  unfolding markEvent
-  mark-stays =
-      event-next _
-      (replied-next (marked card .card) memory locks (marked card .reply)
-      (marked-keeps (kept-changes card []) card (self-kept card) (tests-of card (passes .accepted) .sequence))
-      (marked-accepted card (passes .accepted)) refl refl (passes .marks)
-      (brief-fits (marked card .card) (marked card .reply) (marked-brief card)))
+pub frame-stays : (c : Card) (frame memory locks found : List ℕ) → Accepted c memory locks found → AcceptedNext (frameEvent c frame memory locks found)
+unfolding frameEvent carriedOut
+frame-stays c frame memory locks found a =
+    let d : Deed = decided c locks frame in
+    let p : Passes c (length memory) locks (length found) = passes c memory locks found a in
+    let ready : DeedReady frame d (length memory) (length locks) (length found) =
+    deed-ready c frame (length memory) locks (length found) (refusal c (length memory) locks (length found)) d refl a refl in
+    event-next c memory locks found a _
+    (replied-next c memory locks found a (d .card) _ _ (d .reply)
+    (decided-keeps (kept-changes c frame) c (self-kept c) locks)
+    (decided-keeps (accepted-changes frame) c (p .accepted) locks)
+    (length-memory (d .card) frame memory (d .effect) (ready .effect) (ready .ready .stored))
+    (length-locks locks (d .effect))
+    (locks-fit locks (d .effect) (p .marks))
+    (ready .reply))
 
-  pub off-stays : AcceptedNext (offEvent card memory locks found)
-  unfolding offEvent replyFits
-  off-stays =
-      event-next _
-      (replied-next (poweredOff card) memory locks Silence
-      (off-keeps (kept-changes card []) card (self-kept card)) (off-accepted card (passes .accepted)) refl refl (passes .marks) refl)
+pub mark-stays : (c : Card) (memory locks found : List ℕ) → Accepted c memory locks found → AcceptedNext (markEvent c memory locks found)
+unfolding markEvent
+mark-stays c memory locks found a =
+    let p : Passes c (length memory) locks (length found) = passes c memory locks found a in
+    event-next c memory locks found a _
+    (replied-next c memory locks found a (marked c .card) memory locks (marked c .reply)
+    (marked-keeps (kept-changes c []) c (self-kept c) (tests-of c (p .accepted) .sequence))
+    (marked-accepted c (p .accepted)) refl refl (p .marks)
+    (brief-fits (marked c .card) (marked c .reply) (marked-brief c)))
+
+pub off-stays : (c : Card) (memory locks found : List ℕ) → Accepted c memory locks found → AcceptedNext (offEvent c memory locks found)
+unfolding offEvent replyFits
+off-stays c memory locks found a =
+    let p : Passes c (length memory) locks (length found) = passes c memory locks found a in
+    event-next c memory locks found a _
+    (replied-next c memory locks found a (poweredOff c) memory locks Silence
+    (off-keeps (kept-changes c []) c (self-kept c)) (off-accepted c (p .accepted)) refl refl (p .marks) refl)
