@@ -1,5 +1,7 @@
 mod Told
 mod Ways
+pub mod CardCalls
+pub mod ReadBack
 pub mod Unique
 mod Records
 mod Numbers

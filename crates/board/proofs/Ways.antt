@@ -28,7 +28,7 @@ module _ (s : Served) (found : List ℕ) where
   settles-served h e = record { back = rw (eq-eqb (s .number) 0 h); bytes-left = rw (eq-eqb (s .number) 0 h) e }
 
 -- no bytes read as a card of no blocks
-no-card-refused : (memory locks found : List ℕ) (o : Outcome) → event (cardOf []) memory locks found o ≡ unserved (cardOf []) memory locks found 1
+pub no-card-refused : (memory locks found : List ℕ) (o : Outcome) → event (cardOf []) memory locks found o ≡ unserved (cardOf []) memory locks found 1
 unfolding event refusal isAccepted shapeFits cardOf fieldAt fieldOf
 no-card-refused memory locks found o = refl
 

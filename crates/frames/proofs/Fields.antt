@@ -1,11 +1,11 @@
--- Laws of fields of several bytes: their bytes one by one, their length, and both round trips.
+-- Laws of fields of several bytes: their bytes one by one, their length, how large they are, and both round trips.
 -- By induction over the bytes. Assumes nothing.
 use mathlib.Core.Path.{_≡_, refl, sym, ap, _∙_}
 use Prim.Native.Nat.{ℕ, zero, suc, _+_, _*_, _/_, _%_, _^_, _≤_, _<_, min}
 use native.Mathlib.Nat.{pow-suc}
 use native.Mathlib.Numerals.{add-one}
 use native.Mathlib.Omega.{arith}
-use mathlib.Core.Bool.{cond}
+use mathlib.Core.Bool.{Bool, true, false, cond}
 use mathlib.Core.List.{List, [], _∷_, _++_}
 use borrow.Author.Tests.{lt-ltb, le-ltb}
 use native.Mathlib.Decide.{decLt}
@@ -14,6 +14,7 @@ use lib.Dec.{ltb}
 use lib.Seq.{getD-take, getD-drop}
 use Rattle.lent.specs.Bytes.{Bytes}
 use Rattle.lent.specs.Lent.{placed}
+use Rattle.lent.proofs.Bytes.{bytes-none, bytes-cons}
 use Rattle.lent.proofs.Over.{set-placed}
 use Rattle.frames.specs.Field.{fieldOf, fieldBytes, fieldAt, fieldByte, fourAt}
 
@@ -91,6 +92,38 @@ field-of-fours frame at count =
     field-sum 8 part (rw length-take (omega arith))
     ∙ sum-same 8 (λ k. getD part k 0) (fieldByte frame at count) (λ k h. byte-of-field frame at count k h)
     ∙ omega arith
+
+-- ---- of bytes
+
+pub field-bytes-are-bytes : (count value : ℕ) → Bytes (fieldBytes count value)
+unfolding fieldBytes
+field-bytes-are-bytes zero value = bytes-none
+field-bytes-are-bytes (suc count) value =
+    bytes-cons (value % 256) (fieldBytes count (value / 256)) (omega arith) (field-bytes-are-bytes count (value / 256))
+
+field-byte-below : (frame : List ℕ) (at count i : ℕ) → Bytes frame → fieldByte frame at count i < 256
+unfolding fieldByte
+field-byte-below frame at count i h = go (ltb i count)
+  where
+    go : (b : Bool) → cond b (getD frame (at + i) 0) 0 < 256
+    go true = h (at + i)
+    go false = omega arith
+
+pub field-below : (frame : List ℕ) (at count : ℕ) → Bytes frame → fieldAt frame at count < 256 ^ 8
+unfolding fourAt
+field-below frame at count h =
+    rw field-of-fours
+    (omega (
+      arith,
+      field-byte-below frame at count 0 h,
+      field-byte-below frame at count 1 h,
+      field-byte-below frame at count 2 h,
+      field-byte-below frame at count 3 h,
+      field-byte-below frame at count 4 h,
+      field-byte-below frame at count 5 h,
+      field-byte-below frame at count 6 h,
+      field-byte-below frame at count 7 h,
+    ))
 
 -- ---- both round trips
 

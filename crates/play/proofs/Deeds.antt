@@ -1,5 +1,5 @@
--- Deeds of the table that stay within a card's shape: blocks that are there, and data that stand in the frame. By the tests that lead to each.
--- Assumes nothing.
+-- Whatever frame arrives, what is decided stays within the card: blocks that are there, and data that stand in the frame. By the forms of
+-- a deed and the tests that lead to each. Assumes nothing.
 use mathlib.Core.Path.{_≡_, refl}
 use mathlib.Core.Bool.{Bool, true, false, cond}
 use Prim.Native.Nat.{ℕ, _+_, _≤_, _<_}
@@ -9,134 +9,113 @@ use borrow.Author.Tests.{ltb-true, le-leb}
 use lib.Dec.{ltb}
 use lib.ListN.{length}
 use Rattle.card.specs.declared.Card.{Card}
-use Rattle.card.specs.declared.Mode.{Mode}
-use Rattle.card.specs.declared.Sequence.{Sequence}
-use Rattle.card.specs.declared.Held.{Held}
-use Rattle.card.specs.declared.Held.the-variants.{Success, Code}
-use Rattle.card.specs.declared.Reply.{Reply}
-use Rattle.card.specs.declared.Reply.the-variants.{Blocks, Status}
 use Rattle.requests.specs.declared.Effect.{Effect}
 use Rattle.requests.specs.declared.Effect.the-variants.{Leave, Write, Lock}
 use Rattle.requests.specs.declared.Deed.{Deed}
-use Rattle.card.specs.Record.{remade, cleared, inMode, inSequence, holding, withAfi, withDsfid}
-use Rattle.requests.specs.Request.{deed, silent, fault, done, failed, isLocked, reads, writes, locks-block, tells-locks}
-use Rattle.play.specs.Fits.{effectFits, replyFits}
+use Rattle.card.specs.Record.{remade, cleared}
+use Rattle.card.specs.Inventory.{inventoried}
+use Rattle.requests.specs.Frame.{decided}
+use Rattle.requests.specs.Request.{silent, fault, done, failed, isLocked, reads, writes, locks-block, tells-locks}
+use Rattle.requests.specs.Request.{writes-afi, writes-dsfid, locks-afi, locks-dsfid}
+use Rattle.requests.proofs.Forms.{Forms, by-test, decided-forms}
+use Rattle.requests.proofs.Keeps.{decided-keeps}
+use Rattle.play.specs.Fits.{effectFits, replyFits, DeedFits}
+use Rattle.play.proofs.Kept.{self-kept, kept-changes}
+use Rattle.play.proofs.Brief.{brief-fits}
+use Rattle.play.proofs.Turns.{inventoried-brief}
 
--- a card of the same shape as the one at the start
-pub record Shaped (card c : Card) : Type 0 where
-  pub blocks : c .blocks ≡ card .blocks
-  pub size : c .size ≡ card .size
-
-pub record DeedFits (card : Card) (frame : List ℕ) (d : Deed) : Type 0 where
-  pub shape : Shaped card (d .card)
-  pub effect : effectFits card frame (d .effect) ≡ true
-  pub reply : replyFits card (d .reply) ≡ true
+-- blocks that a test found there
+within : (first n blocks : ℕ) → ltb (first + n) blocks ≡ true → first + (n + 1) ≤ blocks
+within first n blocks e =
+    let h : first + n < blocks = ltb-true (first + n) blocks e in
+    omega arith
 
 module _ (card : Card) (frame : List ℕ) where
-  -- by a test, either way
-  pub by-test : (b : Bool) (x y : Deed) → (b ≡ true → DeedFits card frame x) → (b ≡ false → DeedFits card frame y) → DeedFits card frame (cond b x y)
-  by-test true x y p q = p refl
-  by-test false x y p q = q refl
+  record Inside (d : Deed) : Type 0 where
+    pub effect : effectFits card frame (d .effect) ≡ true
+    pub reply : replyFits card (d .reply) ≡ true
 
-  module _ (c : Card) (same : Shaped card c) where
-    -- each change of the record keeps the shape
-    pub cleared-shape : Shaped card (cleared c)
-    unfolding cleared remade
-    cleared-shape = record { blocks = same .blocks; size = same .size }
+  silent-inside : (c : Card) → Inside (silent c)
+  unfolding effectFits replyFits
+  silent-inside c = record { effect = refl; reply = refl }
 
-    pub mode-shape : (m : Mode) → Shaped card (inMode m c)
-    unfolding inMode remade
-    mode-shape m = record { blocks = same .blocks; size = same .size }
+  fault-inside : (c : Card) (code : ℕ) → Inside (fault c code)
+  unfolding effectFits replyFits
+  fault-inside c code = record { effect = refl; reply = refl }
 
-    pub sequence-shape : (s : Sequence) → Shaped card (inSequence s c)
-    unfolding inSequence remade
-    sequence-shape s = record { blocks = same .blocks; size = same .size }
+  done-inside : (c : Card) (hold : Bool) (e : Effect) → effectFits card frame e ≡ true → Inside (done hold c e)
+  unfolding done replyFits
+  done-inside c true e h = record { effect = h; reply = refl }
+  done-inside c false e h = record { effect = h; reply = refl }
 
-    pub holding-shape : (h : Held) → Shaped card (holding h c)
-    unfolding holding remade
-    holding-shape h = record { blocks = same .blocks; size = same .size }
+  failed-inside : (c : Card) (hold : Bool) (code : ℕ) → Inside (failed hold c code)
+  unfolding failed
+  failed-inside c true code = silent-inside _
+  failed-inside c false code = fault-inside c code
 
-    pub afi-shape : (v : ℕ) (l : Bool) → Shaped card (withAfi v l c)
-    unfolding withAfi remade
-    afi-shape v l = record { blocks = same .blocks; size = same .size }
+  -- ---- the table, for the cleared card, which has the card's blocks
 
-    pub dsfid-shape : (v : ℕ) (l : Bool) → Shaped card (withDsfid v l c)
-    unfolding withDsfid remade
-    dsfid-shape v l = record { blocks = same .blocks; size = same .size }
+  abbrev c : Card
+  c = cleared card
 
-    -- deeds that touch no block
-    pub silent-fits : DeedFits card frame (silent c)
-    unfolding effectFits replyFits
-    silent-fits = record { shape = same; effect = refl; reply = refl }
+  reads-inside : (option : Bool) (first n : ℕ) → Inside (reads c option first n)
+  unfolding reads cleared remade effectFits replyFits
+  reads-inside option first n =
+      by-test Inside (ltb (first + n) (card .blocks)) _ _
+      (λ e. record { effect = refl; reply = le-leb (first + (n + 1)) (card .blocks) (within first n (card .blocks) e) }) (λ e. fault-inside c 0x10)
 
-    pub fault-fits : (code : ℕ) → DeedFits card frame (fault c code)
-    unfolding effectFits replyFits
-    fault-fits code = record { shape = same; effect = refl; reply = refl }
+  tells-inside : (first n : ℕ) → Inside (tells-locks c first n)
+  unfolding tells-locks cleared remade effectFits replyFits
+  tells-inside first n =
+      by-test Inside (ltb (first + n) (card .blocks)) _ _
+      (λ e. record { effect = refl; reply = le-leb (first + (n + 1)) (card .blocks) (within first n (card .blocks) e) }) (λ e. fault-inside c 0x10)
 
-    pub done-fits : (hold : Bool) (e : Effect) → effectFits card frame e ≡ true → DeedFits card frame (done hold c e)
-    unfolding done replyFits
-    done-fits true e h = record { shape = holding-shape Success; effect = h; reply = refl }
-    done-fits false e h = record { shape = same; effect = h; reply = refl }
+  writes-inside : (locks : List ℕ) (option : Bool) (block place : ℕ) → place + c .size ≤ length frame → Inside (writes c locks option block place)
+  unfolding writes cleared remade effectFits
+  writes-inside locks option block place h =
+      by-test Inside (ltb block (card .blocks)) _ _
+      (λ e. by-test Inside (isLocked locks block) _ _ (λ l. failed-inside c option 0x12)
+      (λ l. done-inside c option (Write block place) (rw (e, le-leb (place + card .size) (length frame) h))))
+      (λ e. failed-inside c option 0x10)
 
-    pub failed-fits : (hold : Bool) (code : ℕ) → DeedFits card frame (failed hold c code)
-    unfolding failed effectFits replyFits
-    failed-fits true code = record { shape = holding-shape (Code code); effect = refl; reply = refl }
-    failed-fits false code = fault-fits code
+  locks-inside : (locks : List ℕ) (option : Bool) (block : ℕ) → Inside (locks-block c locks option block)
+  unfolding locks-block cleared remade effectFits
+  locks-inside locks option block =
+      by-test Inside (ltb block (card .blocks)) _ _
+      (λ e. by-test Inside (isLocked locks block) _ _ (λ l. failed-inside c option 0x11) (λ l. done-inside c option (Lock block) e))
+      (λ e. failed-inside c option 0x10)
 
-    pub reply-fits : (r : Reply) → replyFits card r ≡ true → DeedFits card frame (deed c Leave r)
-    unfolding effectFits
-    reply-fits r h = record { shape = same; effect = refl; reply = h }
+  -- AFI and DSFID, written or locked
+  alters-inside : (b option : Bool) (x : Card) (code : ℕ) → Inside (cond b (failed option c code) (done option x Leave))
+  unfolding effectFits
+  alters-inside b option x code = by-test Inside b _ _ (λ l. failed-inside c option code) (λ l. done-inside x option Leave refl)
 
-    -- the table
-    within : (first n : ℕ) → ltb (first + n) (c .blocks) ≡ true → first + (n + 1) ≤ card .blocks
-    within first n e =
-        let h : first + n < c .blocks = ltb-true (first + n) (c .blocks) e in
-        let k : c .blocks ≡ card .blocks = same .blocks in
-        omega arith
+  forms-inside : (locks : List ℕ) → Forms Inside c locks frame
+  unfolding effectFits replyFits writes-afi locks-afi writes-dsfid locks-dsfid
+  forms-inside locks =
+      record {
+        silence = silent-inside c;
+        turns = λ m. silent-inside _;
+        inventory = λ f. record { effect = refl; reply = brief-fits card (inventoried c f frame .reply) (inventoried-brief c f frame) };
+        faulty = fault-inside c;
+        wrong-body = λ hold. failed-inside c hold 0x02;
+        selects = λ m. record { effect = refl; reply = refl };
+        informs = record { effect = refl; reply = refl };
+        reading = reads-inside;
+        writing = writes-inside locks;
+        locking = locks-inside locks;
+        status = tells-inside;
+        afi = λ option place. alters-inside (c .«afi_locked») option _ 0x12;
+        afi-lock = λ option. alters-inside (c .«afi_locked») option _ 0x11;
+        dsfid = λ option place. alters-inside (c .«dsfid_locked») option _ 0x12;
+        dsfid-lock = λ option. alters-inside (c .«dsfid_locked») option _ 0x11;
+      }
 
-    blocks-fit : (first n : ℕ) (option : Bool) → ltb (first + n) (c .blocks) ≡ true → replyFits card (Blocks first (n + 1) option) ≡ true
-    unfolding replyFits
-    blocks-fit first n option e = le-leb (first + (n + 1)) (card .blocks) (within first n e)
-
-    status-fits : (first n : ℕ) → ltb (first + n) (c .blocks) ≡ true → replyFits card (Status first (n + 1)) ≡ true
-    unfolding replyFits
-    status-fits first n e = le-leb (first + (n + 1)) (card .blocks) (within first n e)
-
-    block-fits : (block : ℕ) → ltb block (c .blocks) ≡ true → ltb block (card .blocks) ≡ true
-    block-fits block e = rw (same .blocks) at e
-
-    write-fits : (block place : ℕ) → ltb block (c .blocks) ≡ true → place + card .size ≤ length frame → effectFits card frame (Write block place) ≡ true
-    unfolding effectFits
-    write-fits block place e h = rw (block-fits block e, le-leb (place + card .size) (length frame) h)
-
-    lock-fits : (block : ℕ) → ltb block (c .blocks) ≡ true → effectFits card frame (Lock block) ≡ true
-    unfolding effectFits
-    lock-fits block e = block-fits block e
-
-    pub reads-fits : (option : Bool) (first n : ℕ) → DeedFits card frame (reads c option first n)
-    unfolding reads
-    reads-fits option first n =
-        by-test (ltb (first + n) (c .blocks)) _ _ (λ e. reply-fits (Blocks first (n + 1) option) (blocks-fit first n option e)) (λ e. fault-fits 0x10)
-
-    pub tells-fits : (first n : ℕ) → DeedFits card frame (tells-locks c first n)
-    unfolding tells-locks
-    tells-fits first n =
-        by-test (ltb (first + n) (c .blocks)) _ _ (λ e. reply-fits (Status first (n + 1)) (status-fits first n e)) (λ e. fault-fits 0x10)
-
-    pub writes-fits : (locks : List ℕ) (option : Bool) (block place : ℕ) → place + card .size ≤ length frame → DeedFits card frame (writes c locks option block place)
-    unfolding writes
-    writes-fits locks option block place h =
-        by-test (ltb block (c .blocks)) _ _
-        (λ e. by-test (isLocked locks block) _ _ (λ l. failed-fits option 0x12) (λ l. done-fits option (Write block place) (write-fits block place e h)))
-        (λ e. failed-fits option 0x10)
-
-    pub locks-fits : (locks : List ℕ) (option : Bool) (block : ℕ) → DeedFits card frame (locks-block c locks option block)
-    unfolding locks-block
-    locks-fits locks option block =
-        by-test (ltb block (c .blocks)) _ _
-        (λ e. by-test (isLocked locks block) _ _ (λ l. failed-fits option 0x11) (λ l. done-fits option (Lock block) (lock-fits block e)))
-        (λ e. failed-fits option 0x10)
-
-    pub leave-fits : effectFits card frame Leave ≡ true
-    unfolding effectFits
-    leave-fits = refl
+pub decided-fits : (card : Card) (locks frame : List ℕ) → DeedFits card frame (decided card locks frame)
+decided-fits card locks frame =
+    let inside : Inside card frame (decided card locks frame) = decided-forms (Inside card frame) card locks frame (forms-inside card frame locks) in
+    record {
+      kept = decided-keeps (kept-changes card frame) card (self-kept card) locks;
+      effect = inside .effect;
+      reply = inside .reply;
+    }

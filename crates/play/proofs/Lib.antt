@@ -6,10 +6,14 @@ pub mod Answers
 pub mod Blocks
 pub mod Brief
 pub mod Room
-pub mod Deeds
-pub mod Decided
+pub mod Kept
 pub mod Turns
+pub mod Deeds
+pub mod Refusals
 pub mod ReadyFor
 pub mod EventWays
+pub mod Outcomes
+pub mod EventKeeps
+pub mod Stays
 pub mod Unique
 pub mod Examples

@@ -1,10 +1,9 @@
 -- A call that is served: what its refusals rule out, for the card at the start and for the one that the rules make of it.
 -- By the tests of the definitions. Assumes nothing.
 use mathlib.Core.Path.{_≡_, refl, sym, _∙_}
-use mathlib.Core.Bool.{Bool, true, false, cond, and-eq-true-iff}
-use Prim.Native.Nat.{ℕ, _*_, _≤_}
-use native.Mathlib.Omega.{arith}
-use mathlib.Core.List.{List}
+use mathlib.Core.Bool.{true, and-eq-true-iff}
+use Prim.Native.Nat.{ℕ, _*_}
+use mathlib.Core.List.{List, []}
 use borrow.Author.Tests.{eqb-true}
 use lib.Dec.{eqb}
 use lib.ListN.{length}
@@ -15,53 +14,33 @@ use Rattle.requests.specs.declared.Effect.{Effect}
 use Rattle.requests.specs.declared.Effect.the-variants.{Leave, Write, Lock}
 use Rattle.card.specs.declared.Reply.{Reply}
 use Rattle.card.specs.declared.Reply.the-variants.{Silence, Error, Done, Present, Blocks, Status, Information}
-use Rattle.card.specs.Record.{isAccepted}
 use Rattle.requests.specs.Frame.{decided}
 use Rattle.card.specs.Mark.{marked}
-use Rattle.play.specs.Refusal.{lengthsFit, locksFit, roomFits, refusal}
-use Rattle.play.specs.Fits.{effectFits, isBrief, replyFits, Ready, DeedReady}
+use Rattle.card.proofs.Accepted.{tests-of}
+use Rattle.card.proofs.Changes.{marked-keeps}
+use Rattle.play.specs.Refusal.{lengthsFit, roomFits, refusal}
+use Rattle.play.specs.Fits.{effectFits, isBrief, replyFits, Ready, DeedReady, Kept, DeedFits}
 use Rattle.play.proofs.Shape.{accepted-shape}
 use Rattle.play.proofs.Brief.{brief-fits}
-use Rattle.play.proofs.Deeds.{Shaped, DeedFits}
-use Rattle.play.proofs.Turns.{TurnFits, marked-fits, decided-fits}
-
-pub refusal-most : (c : Card) (memory : ℕ) (locks : List ℕ) (room : ℕ) → refusal c memory locks room ≤ 4
-unfolding refusal
-refusal-most c memory locks room = go (isAccepted c) (lengthsFit c memory (length locks)) (locksFit locks) (roomFits c room)
-  where
-    go : (a b d e : Bool) → cond a (cond b (cond d (cond e 0 4) 3) 2) 1 ≤ 4
-    go true true true true = omega arith
-    go true true true false = omega arith
-    go true true false e = omega arith
-    go true false d e = omega arith
-    go false b d e = omega arith
-
-built : (c : Card) (memory : ℕ) (locks : List ℕ) (room : ℕ) → isAccepted c ≡ true → lengthsFit c memory (length locks) ≡ true → roomFits c room ≡ true
-    → Ready c memory (length locks) room
-unfolding lengthsFit
-built c memory locks room p q r =
-    let both = and-eq-true-iff (eqb memory (c .blocks * c .size)) (eqb (length locks) (c .blocks)) .0 q in
-    record {
-      shape = accepted-shape c p;
-      stored = eqb-true memory (c .blocks * c .size) (both .0);
-      marks = eqb-true (length locks) (c .blocks) (both .1);
-      fits = r;
-    }
+use Rattle.play.proofs.Kept.{self-kept, kept-changes}
+use Rattle.play.proofs.Refusals.{Passes, passes-of}
+use Rattle.play.proofs.Turns.{marked-brief}
+use Rattle.play.proofs.Deeds.{decided-fits}
 
 ready-of : (c : Card) (memory : ℕ) (locks : List ℕ) (room : ℕ) → refusal c memory locks room ≡ 0 → Ready c memory (length locks) room
-unfolding refusal
-ready-of c memory locks room e = go (isAccepted c) (lengthsFit c memory (length locks)) (locksFit locks) (roomFits c room) refl refl refl e
-  where
-    go : (a b d f : Bool) → isAccepted c ≡ a → lengthsFit c memory (length locks) ≡ b → roomFits c room ≡ f
-        → _≡_ {A = ℕ} (cond a (cond b (cond d (cond f 0 4) 3) 2) 1) 0 → Ready c memory (length locks) room
-    go true true true true p q r h = built c memory locks room p q r
-    go true true true false p q r h = absurd (omega arith)
-    go true true false f p q r h = absurd (omega arith)
-    go true false d f p q r h = absurd (omega arith)
-    go false b d f p q r h = absurd (omega arith)
+unfolding lengthsFit
+ready-of c memory locks room e =
+    let p : Passes c memory locks room = passes-of c memory locks room e in
+    let both = and-eq-true-iff (eqb memory (c .blocks * c .size)) (eqb (length locks) (c .blocks)) .0 (p .lengths) in
+    record {
+      shape = accepted-shape c (p .accepted);
+      stored = eqb-true memory (c .blocks * c .size) (both .0);
+      marks = eqb-true (length locks) (c .blocks) (both .1);
+      fits = p .space;
+    }
 
 -- a card of the same shape is ready too
-module _ (card c : Card) (same : Shaped card c) where
+module _ (card c : Card) (same : Kept card c) where
   ready-shape : (memory : ℕ) (locks : List ℕ) (room : ℕ) → Ready card memory (length locks) room → Ready c memory (length locks) room
   unfolding roomFits
   ready-shape memory locks room r =
@@ -97,9 +76,9 @@ deed-ready card frame memory locks room n d e z k = rw k (go (decided card locks
     go d fits =
         let r : Ready card memory (length locks) room = ready-of card memory locks room (sym e ∙ z) in
         record {
-          ready = ready-shape card (d .card) (fits .shape) memory locks room r;
-          effect = effect-shape card (d .card) (fits .shape) frame (d .effect) (fits .effect);
-          reply = reply-shape card (d .card) (fits .shape) (d .reply) (fits .reply);
+          ready = ready-shape card (d .card) (fits .kept) memory locks room r;
+          effect = effect-shape card (d .card) (fits .kept) frame (d .effect) (fits .effect);
+          reply = reply-shape card (d .card) (fits .kept) (d .reply) (fits .reply);
         }
 
 -- and a mark's turn
@@ -110,12 +89,12 @@ pub record TurnReady (t : Turn) (memory : ℕ) (locks : List ℕ) (room : ℕ) :
 
 pub mark-ready : (card : Card) (memory : ℕ) (locks : List ℕ) (room n : ℕ) (t : Turn) → n ≡ refusal card memory locks room → n ≡ 0
     → t ≡ marked card → TurnReady t memory locks room
-mark-ready card memory locks room n t e z k = rw k (go (marked card) (marked-fits card))
-  where
-    go : (t : Turn) → TurnFits card t → TurnReady t memory locks room
-    go t fits =
-        record {
-          ready = ready-shape card (t .card) (fits .shape) memory locks room (ready-of card memory locks room (sym e ∙ z));
-          brief = fits .reply;
-          reply = brief-fits (t .card) (t .reply) (fits .reply);
-        }
+mark-ready card memory locks room n t e z k =
+    let p : Passes card memory locks room = passes-of card memory locks room (sym e ∙ z) in
+    let same : Kept card (marked card .card) = marked-keeps (kept-changes card []) card (self-kept card) (tests-of card (p .accepted) .sequence) in
+    rw k
+    (record {
+      ready = ready-shape card (marked card .card) same memory locks room (ready-of card memory locks room (sym e ∙ z));
+      brief = marked-brief card;
+      reply = brief-fits (marked card .card) (marked card .reply) (marked-brief card);
+    })

@@ -8,7 +8,8 @@ use native.Mathlib.Omega.{arith}
 use borrow.Author.Tests.{leb-true}
 use lib.Dec.{leb}
 use Rattle.card.specs.declared.Card.{Card}
-use Rattle.card.specs.Record.{shapeFits, sequenceFits, heldFits, isAccepted}
+use Rattle.card.specs.Record.{shapeFits, isAccepted}
+use Rattle.card.proofs.Accepted.{tests-of}
 
 pub record Shape (blocks size : ℕ) : Type 0 where
   pub block : 1 ≤ blocks
@@ -44,8 +45,7 @@ products-fit blocks size b s =
     (mul-le-mul b s, mul-le-mul b more)
 
 pub accepted-shape : (c : Card) → isAccepted c ≡ true → shapeFits (c .blocks) (c .size) ≡ true
-unfolding isAccepted
-accepted-shape c e = and-eq-true-iff (shapeFits (c .blocks) (c .size)) (sequenceFits (c .sequence) && heldFits (c .held)) .0 e .0
+accepted-shape c e = tests-of c e .shape
 
 -- a block of the card is within its memory
 pub block-within : (block blocks size : ℕ) → block < blocks → block * size + size ≤ blocks * size

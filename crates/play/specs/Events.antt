@@ -15,7 +15,7 @@ use Rattle.card.specs.Record.{poweredOff}
 use Rattle.card.specs.Mark.{marked}
 use Rattle.requests.specs.Frame.{decided}
 use Rattle.play.specs.declared.Served.{Served}
-use Rattle.play.specs.Refusal.{refusal}
+use Rattle.play.specs.Refusal.{refusal, Accepted}
 use Rattle.play.specs.Answer.{replyBytes}
 use Rattle.play.specs.Effects.{memoryAfter, locksAfter}
 
@@ -75,6 +75,10 @@ markEvent c memory locks found = event c memory locks found (replied (marked c .
 
 unfoldable pub offEvent : Card → List ℕ → List ℕ → List ℕ → Outcome
 offEvent c memory locks found = event c memory locks found (replied (poweredOff c) memory locks Silence found)
+
+-- they accept what a call leaves: the next one is served too
+abbrev pub AcceptedNext : Outcome → Type 0
+AcceptedNext o = Accepted (o .card) (o .memory) (o .locks) (o .answer)
 
 -- what the three calls promise: what is returned, and every lent byte
 pub record Leaves (o : Outcome) (r : Served) (memory locks answer : List ℕ) : Type 0 where

@@ -52,3 +52,16 @@ pub record DeedReady (frame : List ℕ) (d : Deed) (memory locks room : ℕ) : T
   pub ready : Ready (d .card) memory locks room
   pub effect : effectFits (d .card) frame (d .effect) ≡ true
   pub reply : replyFits (d .card) (d .reply) ≡ true
+
+-- what no event changes: shape, UID and IC reference
+pub record Kept (card c : Card) : Type 0 where
+  pub blocks : c .blocks ≡ card .blocks
+  pub size : c .size ≡ card .size
+  pub uid : c .uid ≡ card .uid
+  pub «ic_reference» : c .«ic_reference» ≡ card .«ic_reference»
+
+-- a deed that stays within the card and within the frame
+pub record DeedFits (card : Card) (frame : List ℕ) (d : Deed) : Type 0 where
+  pub kept : Kept card (d .card)
+  pub effect : effectFits card frame (d .effect) ≡ true
+  pub reply : replyFits card (d .reply) ≡ true

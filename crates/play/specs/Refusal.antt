@@ -2,6 +2,7 @@
 use Prim.Native.Nat.{ℕ, _+_, _*_}
 use mathlib.Core.Bool.{Bool, true, cond, _&&_}
 use mathlib.Core.List.{List, [], _∷_}
+use mathlib.Core.Path.{_≡_}
 use lib.Dec.{leb, eqb}
 use lib.ListN.{length}
 use Rattle.card.specs.declared.Card.{Card}
@@ -26,3 +27,7 @@ refusal c memory locks room =
     cond (isAccepted c)
     (cond (lengthsFit c memory (length locks)) (cond (locksFit locks) (cond (roomFits c room) 0 4) 3) 2)
     1
+
+-- numbers 1 to 4 accept a card with what is lent to it: the call is served
+abbrev pub Accepted : Card → List ℕ → List ℕ → List ℕ → Type 0
+Accepted c memory locks found = refusal c (length memory) locks (length found) ≡ 0

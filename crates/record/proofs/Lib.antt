@@ -2,4 +2,6 @@ mod Fields
 mod Reading
 mod Putting
 pub mod RoundTrip
+pub mod Numbers
+pub mod Written
 pub mod Unique

@@ -3,7 +3,7 @@
 use mathlib.Core.Path.{_≡_, refl, ap, _∙_}
 use mathlib.Core.Bool.{Bool, true, false}
 use mathlib.Core.List.{List, _++_}
-use Prim.Native.Nat.{ℕ, _+_, _^_, _≤_, _<_}
+use Prim.Native.Nat.{ℕ, _+_, _≤_}
 use native.Mathlib.Omega.{arith}
 use borrow.Author.Tests.{eq-eqb, ne-eqb}
 use lib.ListN.{length, take, drop}
@@ -21,15 +21,8 @@ use Rattle.card.specs.declared.Sequence.the-variants.{Idle, Running}
 use Rattle.card.specs.declared.Held.{Held}
 use Rattle.card.specs.declared.Held.the-variants.{Free, Success, Code}
 use Rattle.record.specs.Record.{flagOf, modeOf, sequenceOf, heldOf, cardOf, flagByte, modeByte, fieldsOf, heldByte, stateBytes, frontBytes, recordOf, recordLength, cardRead, writeLeaves}
+use Rattle.record.specs.Fits.{Fits}
 use Rattle.record.proofs.Putting.{length-front}
-
--- the numbers fit their fields; the bytes 0 and 1 hold no code
-pub record Fits (c : Card) : Type 0 where
-  pub uid : c .uid < 256 ^ 8
-  pub blocks : c .blocks < 256 ^ 4
-  pub size : c .size < 256 ^ 4
-  pub mask : fieldsOf (c .sequence) .mask < 256 ^ 8
-  pub code : (code : ℕ) → c .held ≡ Code code → 2 ≤ code
 
 flag-back : (b : Bool) → flagOf (flagByte b) ≡ b
 unfolding flagOf flagByte
@@ -108,7 +101,7 @@ module _ (c : Card) (found : List ℕ) (is : length found ≡ 40) where
         held = held-back (c .held) (fits .code) i;
       }
 
-  length-record : length (recordOf c found) ≡ 40
+  pub length-record : length (recordOf c found) ≡ 40
   unfolding recordOf
   length-record =
       let m : List ℕ = fieldBytes 8 (fieldsOf (c .sequence) .mask) in
@@ -116,7 +109,11 @@ module _ (c : Card) (found : List ℕ) (is : length found ≡ 40) where
       let all : length (over (frontBytes c) found) ≡ length found = length-over (frontBytes c) found (omega (arith, length-front c)) in
       length-placed 32 m (over (frontBytes c) found) (omega arith) ∙ all ∙ is
 
-  -- the same of the two calls
+  -- the same of the calls
+  pub read-of-record : Fits c → cardRead (recordOf c found) ≡ c
+  unfolding cardRead recordLength
+  read-of-record fits = rw (eq-eqb (length (recordOf c found)) 40 length-record) (card-of-record fits)
+
   pub read-of-write : Fits c → cardRead (writeLeaves c found) ≡ c
-  unfolding cardRead writeLeaves recordLength
-  read-of-write fits = rw (eq-eqb (length found) 40 is, eq-eqb (length (recordOf c found)) 40 length-record) (card-of-record fits)
+  unfolding writeLeaves recordLength
+  read-of-write fits = rw (eq-eqb (length found) 40 is) (read-of-record fits)

@@ -1,4 +1,6 @@
 pub mod Verdicts
 pub mod Modes
 pub mod Rules
+pub mod Forms
+pub mod Keeps
 pub mod Examples
