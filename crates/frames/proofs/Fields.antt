@@ -14,7 +14,8 @@ use lib.Dec.{ltb}
 use lib.Seq.{getD-take, getD-drop}
 use Rattle.lent.specs.Lent.{placed}
 use Rattle.lent.proofs.Over.{set-placed}
-use Rattle.frames.specs.Field.{fieldOf, fieldBytes, fieldAt, fieldByte, fourAt}
+use Rattle.frames.specs.Field.{fieldOf, fieldBytes, fieldAt}
+use Rattle.frames.specs.Steps.{fieldByte, fourAt}
 
 -- a value without its i lowest bytes
 unfoldable pub upper : ℕ → ℕ → ℕ

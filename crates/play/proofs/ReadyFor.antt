@@ -19,7 +19,8 @@ use Rattle.card.specs.Record.{isAccepted}
 use Rattle.requests.specs.Frame.{decided}
 use Rattle.card.specs.Mark.{marked}
 use Rattle.play.specs.Refusal.{lengthsFit, locksFit, roomFits, refusal}
-use Rattle.play.specs.Fits.{effectFits, isBrief, replyFits, Ready, DeedReady}
+use Rattle.play.specs.Fits.{effectFits, replyFits}
+use Rattle.play.specs.Steps.{isBrief, Ready, DeedReady}
 use Rattle.play.proofs.Shape.{accepted-shape}
 use Rattle.play.proofs.Brief.{brief-fits}
 use Rattle.play.proofs.Deeds.{Shaped, DeedFits}

@@ -19,7 +19,8 @@ use Rattle.card.specs.Record.{cleared}
 use Rattle.card.specs.Inventory.{still, present, joins, inventoried, isInventory, takesPart, lengthPlace}
 use Rattle.card.specs.Mark.{marked, released, moved}
 use Rattle.requests.specs.Frame.{decided}
-use Rattle.play.specs.Fits.{effectFits, isBrief}
+use Rattle.play.specs.Fits.{effectFits}
+use Rattle.play.specs.Steps.{isBrief}
 use Rattle.play.proofs.Deeds.{Shaped, DeedFits, by-test, cleared-shape, sequence-shape, holding-shape, silent-fits}
 use Rattle.play.proofs.Brief.{brief-fits}
 use Rattle.play.proofs.Decided.{requested-fits}

@@ -12,12 +12,13 @@ use Rattle.lent.specs.Lent.{over}
 use Rattle.crc.specs.Check.{sealed, checkOf, isSealed}
 use Rattle.crc.proofs.Seal.{is-sealed-of-sealed, sealed-of-is-sealed}
 use Rattle.crc.proofs.Unique.{check-unique, is-sealed-unique}
-use Rattle.crc.proofs.Examples.{Checks, checks}
+use Rattle.crc.specs.Examples.{Checks}
+use Rattle.crc.proofs.Examples.{checks}
 use Rattle.frames.specs.declared.Flags.{Flags}
 use Rattle.frames.specs.Flags.{flagsOf}
 use Rattle.frames.specs.Field.{fieldAt, PutsField}
-use Rattle.frames.specs.Frame.{shortest, longest, isSound, Seals}
-use Rattle.frames.proofs.Sound.{Sound, sound-of-sealed, sealed-of-sound}
+use Rattle.frames.specs.Frame.{shortest, longest, isSound, Seals, Sound}
+use Rattle.frames.proofs.Sound.{sound-of-sealed, sealed-of-sound}
 use Rattle.frames.proofs.Unique.{flags-unique, byte-at-unique, field-unique, put-field-unique, seal-unique, is-sound-unique}
 use Rattle.hex.specs.Digits.{digitOf, digit, hasForm, numberAt}
 use Rattle.hex.specs.Rows.{isRow, rowBytes, rowText, ReadsRow, PutsRow}
@@ -68,7 +69,8 @@ use Rattle.walk.specs.Hear.{judged, Hearing, Hears}
 use Rattle.walk.specs.Ask.{Asking, Asks}
 use Rattle.walk.proofs.Unique as walk-unique
 use Rattle.walk.proofs.Unique.{start-unique, hear-unique, ask-unique}
-use Rattle.walk.proofs.Examples.{Walks, walks}
+use Rattle.walk.specs.Examples.{Walks}
+use Rattle.walk.proofs.Examples.{walks}
 use Rattle.field.specs.Replies.{anyReplies}
 use Rattle.field.specs.Demand.{demand3}
 use Rattle.field.proofs.AnyWalk.{judged-fits, walk-of-any-replies}
@@ -86,7 +88,7 @@ use Rattle.row.proofs.Unique.{fresh-unique, deal-unique, listen-row-unique, slo
 use Rattle.lines.specs.declared.Lines.{Lines}
 use Rattle.lines.specs.Input.{badLine, uids}
 use Rattle.lines.specs.Lines.{freshLines, readFrom}
-use Rattle.lines.proofs.Reading as reading
+use Rattle.lines.specs.Lines as reading
 use Rattle.lines.proofs.Reading.{reads-input}
 use Rattle.lines.proofs.Unique.{read-unique}
 use Rattle.rack.specs.Output.{report}
@@ -94,13 +96,15 @@ use Rattle.rack.specs.Bench.{printed, Prints}
 use Rattle.rack.proofs.InputMeaning.{printed-meets-demand3}
 use Rattle.rack.proofs.Start.{printed-of-start}
 use Rattle.rack.proofs.Unique.{prints-unique}
-use Rattle.rack.proofs.Examples.{Bench, bench}
+use Rattle.rack.specs.Examples.{Bench}
+use Rattle.rack.proofs.Examples.{bench}
 use Rattle.picture.specs.Drawn.{pictured, Pictures}
 use Rattle.picture.specs.Meaning.{signs}
 use Rattle.picture.proofs.Signs.{every-sign}
 use Rattle.picture.proofs.Start.{pictured-of-start}
 use Rattle.picture.proofs.Unique.{pictures-unique}
-use Rattle.picture.proofs.Examples.{ThreeDrawn, picture-of-three}
+use Rattle.picture.specs.Examples.{ThreeDrawn}
+use Rattle.picture.proofs.Examples.{picture-of-three}
 use Rattle.board.specs.Calls.{Left, Gives}
 use Rattle.board.specs.Walked.{HearsInPlace, AsksInPlace}
 use Rattle.board.proofs.Unique.{gives-unique}
