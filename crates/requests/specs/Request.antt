@@ -94,7 +94,7 @@ commanded c locks option frame at command =
 
 -- ---- step 6: "Then, in this order, error answers (01, code, check)"
 
--- "command not listed 01": the table has 20 to 2C without 24; "Write multiple blocks (24)" is not in the base
+-- "command not listed 01": the table has 20 to 2C without 24; "custom and proprietary commands, Write multiple blocks (24) .. are not in the base"
 unfoldable pub isListed : ℕ → Bool
 isListed command = leb 0x20 command && (leb command 0x2c && not (eqb command 0x24))
 
