@@ -1,7 +1,7 @@
 -- 01's bench field, drawn: for the page's three lines the heading, two rounds and the page's printed text, byte for byte. The walk is worked out over
 -- the UIDs alone. Assumes nothing.
 use mathlib.Core.Path.{_≡_, refl, ap, _∙_}
-use Prim.Native.Nat.{ℕ, _*_}
+use Prim.Native.Nat.{_*_}
 use native.Mathlib.Omega.{arith}
 use mathlib.Core.List.{[], _++_, append-nil}
 use Rattle.tails.specs.Tails.{ending}
@@ -19,7 +19,6 @@ use Rattle.row.proofs.Meaning.{tagsOf, tags-obey, tags-answer, freshField, benc
 use Rattle.lines.proofs.Examples.{three-fit, three-read}
 use Rattle.hex.specs.Digits.{digit, hexDigits}
 use Rattle.rack.specs.Output.{decimal}
-use Rattle.rack.specs.Bench.{printed}
 use Rattle.rack.proofs.Examples.{bench}
 use Rattle.picture.specs.Drawn.{roundShown, tailShown, lineHead, heading, twinsLine, drawn, pictured}
 use Rattle.picture.specs.Meaning.{signFor}

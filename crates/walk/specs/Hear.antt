@@ -54,8 +54,8 @@ listNoted w Silent list = list
 listNoted w Clashed list = list
 listNoted w (Clean uid) list = set list (w .count) uid
 
--- "After slot 15 the walk opens the lowest unopened clash of the deepest level that has one"; "complete (no clash waits)", "overrun (round 482
--- would be needed)". The second argument is one more than that level, or 0 where no clash waits
+-- "After slot 15 the walk opens the lowest unopened clash of the deepest level that has one"; "complete (no clash waits)",
+-- "overrun (round 482 would be needed)". The second argument is one more than that level, or 0 where no clash waits
 unfoldable pub turned : Walk → ℕ → Walk
 turned w zero = ended complete w
 turned w (suc j) = cond (ltb (w .rounds) mostRounds) (opened w j) (ended overrun w)
