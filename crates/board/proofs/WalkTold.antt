@@ -22,7 +22,8 @@ use Rattle.walk.proofs.Limits.{accepted-of-is-accepted}
 use Rattle.walk.proofs.Requests.{length-request-most}
 use Rattle.walk.proofs.AskWays.{served-of-refusal}
 use Rattle.board.specs.declared.in_place.Told.{Told}
-use Rattle.board.specs.Walked.{toldOf, Tells, lengthOf, askAnswer, AsksInPlace}
+use Rattle.board.specs.Walked.{lengthOf, askAnswer, AsksInPlace}
+use Rattle.board.specs.Steps.{toldOf, Tells}
 
 -- no bytes are looked at in a silent slot or a clash
 pub silence-has-no-bytes : (w : Walk) (bytes list : List ℕ) → hearing w Silence bytes list ≡ hearing w Silence [] list

@@ -16,7 +16,8 @@ use Rattle.record.specs.Record.{recordLength, cardOf, cardRead, recordOf, write
 use Rattle.play.specs.declared.Served.{Served}
 use Rattle.play.specs.Refusal.{refusal}
 use Rattle.play.specs.Events.{Outcome, Leaves, unserved, event, frameEvent, markEvent, offEvent}
-use Rattle.board.specs.Calls.{backOf, bytesAfter, settled, called, frameCall, markCall, offCall, Gives, Settles}
+use Rattle.board.specs.Calls.{backOf, bytesAfter, settled, called, frameCall, markCall, offCall, Gives}
+use Rattle.board.specs.Steps.{Settles}
 
 module _ (s : Served) (found : List ℕ) where
   pub settles-refused : {r : ℤ} → (s .number ≡ 0 → ⊥) → r ≡ refused (s .number) → Settles s found r found

@@ -8,9 +8,8 @@ use lib.IntN.{ℤ, pos}
 use lib.ListN.{length}
 use Rattle.lent.specs.Lent.{refused}
 use Rattle.card.specs.declared.Card.{Card}
-use Rattle.play.specs.declared.Served.{Served}
 use Rattle.play.specs.Events.{Outcome, frameEvent, markEvent, offEvent}
-use Rattle.record.specs.Record.{recordLength, cardOf, recordOf, writeLeaves}
+use Rattle.record.specs.Record.{recordLength, cardOf, recordOf}
 
 -- all that a call leaves behind: the number back, and every lent byte
 pub record Left : Type 0 where
@@ -61,8 +60,3 @@ pub record Gives (l : Left) (r : ℤ) (bytes memory locks answer : List ℕ) : T
   pub memory-left : memory ≡ l .memory
   pub locks-left : locks ≡ l .locks
   pub answer-left : answer ≡ l .answer
-
--- the same for the number and the record alone, of whatever length
-pub record Settles (s : Served) (found : List ℕ) (r : ℤ) (bytes : List ℕ) : Type 0 where
-  pub back : r ≡ backOf (s .number) (s .length)
-  pub bytes-left : bytes ≡ cond (eqb (s .number) 0) (writeLeaves (s .card) found) found

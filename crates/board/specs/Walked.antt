@@ -7,23 +7,12 @@ use lib.Dec.{eqb}
 use lib.IntN.{ℤ, pos}
 use Rattle.lent.specs.Lent.{refused}
 use Rattle.walk.specs.declared.Walk.{Walk}
-use Rattle.walk.specs.declared.Heard.{Heard}
 use Rattle.walk.specs.declared.Send.{Send}
 use Rattle.walk.specs.declared.Send.the-variants.{Nothing, Mark, Request}
 use Rattle.walk.specs.Hear.{Hearing}
 use Rattle.walk.specs.Ask.{Asking}
-use Rattle.board.specs.declared.in_place.Told.{Told}
 
 -- ---- hearing: 0, or minus the number of the refusal
-
-unfoldable pub toldOf : Heard → Told
-toldOf heard = record { walk = heard .walk; answer = refused (heard .number) }
-
--- what the functions by value promise
-pub record Tells (h : Hearing) (r : Told) (list : List ℕ) : Type 0 where
-  pub walk : r .walk ≡ h .walk
-  pub answer : r .answer ≡ refused (h .number)
-  pub list-left : list ≡ h .list
 
 -- what the calls in place promise: the number r, the walk where it stands, and every place of the list
 pub record HearsInPlace (h : Hearing) (r : ℤ) (walk : Walk) (list : List ℕ) : Type 0 where

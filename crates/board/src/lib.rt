@@ -9,7 +9,8 @@ ghost use Rattle.crc.specs.Check.{checkOf};
 ghost use Rattle.frames.specs.Frame.{Seals, isSound};
 ghost use Rattle.tracks.specs.Coder.{Codes};
 ghost use Rattle.tracks.specs.Decoder.{Decodes};
-ghost use Rattle.board.specs.Calls.{frameCall, markCall, offCall, Gives, Settles};
+ghost use Rattle.board.specs.Calls.{frameCall, markCall, offCall, Gives};
+ghost use Rattle.board.specs.Steps.{Settles};
 use crate::in_place::minus;
 use play::Served;
 

@@ -1,10 +1,10 @@
 -- 01, The card, "Order for a frame", steps 1 and 2.
 use Prim.Native.Nat.{ℕ}
-use mathlib.Core.Bool.{cond, _||_}
+use mathlib.Core.Bool.{cond}
 use mathlib.Core.List.{List}
 use lib.ListN.{getD}
 use Rattle.frames.specs.declared.Flags.{Flags}
-use Rattle.frames.specs.Flags.{flagsOf}
+use Rattle.frames.specs.Flags.{flagsOf, asksInventory, setsReserved}
 use Rattle.frames.specs.Frame.{isSound}
 use Rattle.card.specs.declared.Card.{Card}
 use Rattle.card.specs.declared.Turn.{Turn}
@@ -17,4 +17,4 @@ unfoldable pub heardInventory : Card → List ℕ → Turn
 heardInventory card frame =
     let c : Card = cleared card in
     let f : Flags = flagsOf (getD frame 0 0) in
-    cond (isSound frame) (cond (f .b4 || f .b8) (still c) (cond (f .b3) (inventoried c f frame) (still c))) (still c)
+    cond (isSound frame) (cond (setsReserved f) (still c) (cond (asksInventory f) (inventoried c f frame) (still c))) (still c)

@@ -1,5 +1,4 @@
--- 01, The card: "A slot mark releases it and changes nothing else; with none held it moves a running sequence to the next slot (after slot 15
--- it ends), answering if the slot matches; else silence."
+-- 01, The card: what a slot mark does.
 use Prim.Native.Nat.{_+_}
 use mathlib.Core.Bool.{cond}
 use lib.Dec.{ltb}
@@ -14,7 +13,7 @@ use Rattle.card.specs.declared.Reply.the-variants.{Error, Done}
 use Rattle.card.specs.Record.{inSequence, holding}
 use Rattle.card.specs.Inventory.{turn, still, present}
 
--- the next slot of a running sequence
+-- "with none held it moves a running sequence to the next slot (after slot 15 it ends), answering if the slot matches; else silence."
 unfoldable pub moved : Card → Sequence → Turn
 moved c Idle = still c
 moved c (Running slot n mask) =
@@ -22,6 +21,7 @@ moved c (Running slot n mask) =
     (turn (inSequence (Running (slot + 1) n mask) c) (present (fitsSlot (c .uid) n mask (slot + 1))))
     (still (inSequence Idle c))
 
+-- "A slot mark releases it and changes nothing else"
 unfoldable pub released : Card → Held → Turn
 released c Free = moved c (c .sequence)
 released c Success = turn (holding Free c) Done

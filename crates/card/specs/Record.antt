@@ -12,7 +12,7 @@ use Rattle.card.specs.declared.Held.the-variants.{Free, Success, Code}
 
 -- ---- Numbers of refused calls, 1
 
--- "shape outside limits": "1 to 256 blocks of 1 to 32 bytes"
+-- "shape outside limits"; "Shape: 1 to 256 blocks of 1 to 32 bytes"
 unfoldable pub shapeFits : ℕ → ℕ → Bool
 shapeFits blocks size = leb 1 blocks && (leb blocks 256 && (leb 1 size && leb size 32))
 
@@ -21,12 +21,13 @@ unfoldable pub sequenceFits : Sequence → Bool
 sequenceFits Idle = true
 sequenceFits (Running slot n mask) = leb slot 15 && (leb n 60 && ltb mask (2 ^ n))
 
--- "a held code other than 02, 10, 11, 12"
+-- "a held code other than 02, 10, 11, 12"; "A held answer is success or an error code 02, 10, 11 or 12."
 unfoldable pub heldFits : Held → Bool
 heldFits Free = true
 heldFits Success = true
 heldFits (Code code) = eqb code 0x02 || (eqb code 0x10 || (eqb code 0x11 || eqb code 0x12))
 
+-- number 1: "card record"
 unfoldable pub isAccepted : Card → Bool
 isAccepted c = shapeFits (c .blocks) (c .size) && (sequenceFits (c .sequence) && heldFits (c .held))
 

@@ -1,14 +1,18 @@
 -- 01, Check and byte order. The calculation is that of Annex C of ISO/IEC 15693-3, bit by bit.
-use Prim.Native.Nat.{ℕ, zero, suc, _-_, _/_, _%_}
+use Prim.Native.Nat.{ℕ, zero, suc, _+_, _-_, _/_, _%_, _^_}
 use mathlib.Core.Bool.{Bool, _&&_, cond}
 use mathlib.Core.List.{List, [], _∷_, _++_}
 use lib.Bits.{bitXor}
 use lib.Dec.{leb, eqb}
 use lib.ListN.{length, getD, take}
 
--- "polynomial x^16+x^12+x^5+1, bits least significant first": a bit for each power below 16, the lowest power in the top bit
+-- "bits least significant first": the register's top bit stands for x^0, each bit below it for the next power, bit 0 for x^15; x^16 is the bit that leaves
+abbrev pub power : ℕ → ℕ
+power n = 2 ^ (15 - n)
+
+-- "polynomial x^16+x^12+x^5+1": what is put over the register where x^16 leaves it. That is 8408
 abbrev pub polynomial : ℕ
-polynomial = 0x8408
+polynomial = power 12 + power 5 + power 0
 
 -- "preset FFFF"
 abbrev pub preset : ℕ

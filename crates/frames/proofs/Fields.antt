@@ -16,7 +16,8 @@ use Rattle.lent.specs.Bytes.{Bytes}
 use Rattle.lent.specs.Lent.{placed}
 use Rattle.lent.proofs.Bytes.{bytes-none, bytes-cons}
 use Rattle.lent.proofs.Over.{set-placed}
-use Rattle.frames.specs.Field.{fieldOf, fieldBytes, fieldAt, fieldByte, fourAt}
+use Rattle.frames.specs.Field.{fieldOf, fieldBytes, fieldAt}
+use Rattle.frames.specs.Steps.{fieldByte, fourAt}
 
 -- a value without its i lowest bytes
 unfoldable pub upper : ℕ → ℕ → ℕ

@@ -2,25 +2,19 @@
 -- Assumes nothing.
 use mathlib.Core.Path.{_≡_}
 use mathlib.Core.Bool.{true, _&&_, and-eq-true-iff}
-use Prim.Native.Nat.{ℕ, _+_, _-_, _≤_}
+use Prim.Native.Nat.{ℕ, _+_, _≤_}
 use mathlib.Core.List.{List}
 use borrow.Author.Tests.{le-leb, leb-true}
 use lib.Dec.{leb}
-use lib.ListN.{length, take}
+use lib.ListN.{length}
 use Rattle.crc.specs.Check.{sealed, isSealed}
 use Rattle.crc.proofs.Seal.{length-sealed, is-sealed-of-sealed, sealed-of-is-sealed}
-use Rattle.frames.specs.Frame.{shortest, longest, isSound}
+use Rattle.frames.specs.Frame.{shortest, longest, isSound, Sound}
 
 pub sound-of-sealed : (m : List ℕ) → shortest ≤ length m + 2 → length m + 2 ≤ longest → isSound (sealed m) ≡ true
 unfolding isSound
 sound-of-sealed m a b =
     rw (length-sealed m, le-leb shortest (length m + 2) a, le-leb (length m + 2) longest b) (is-sealed-of-sealed m)
-
--- what a sound frame is
-pub record Sound (frame : List ℕ) : Type 0 where
-  pub least : shortest ≤ length frame
-  pub most : length frame ≤ longest
-  pub seal : frame ≡ sealed (take (length frame - 2) frame)
 
 pub sealed-of-sound : (frame : List ℕ) → isSound frame ≡ true → Sound frame
 unfolding isSound

@@ -3,9 +3,9 @@ use Prim.Native.Nat.{ℕ, zero, suc, _+_, _*_, _/_, _%_, min}
 use mathlib.Core.Bool.{cond}
 use mathlib.Core.List.{List, [], _∷_}
 use mathlib.Core.Path.{_≡_}
-use lib.Dec.{leb, ltb}
+use lib.Dec.{leb}
 use lib.IntN.{ℤ, pos}
-use lib.ListN.{length, take, drop, getD}
+use lib.ListN.{length, take, drop}
 use Rattle.lent.specs.Lent.{placed, refused}
 
 -- the number that bytes stand for
@@ -21,15 +21,6 @@ fieldBytes (suc count) value = value % 256 ∷ fieldBytes count (value / 256)
 -- the field of so many bytes, eight at the most, at a place of a frame. Where the frame ends before the field does, the field ends there
 unfoldable pub fieldAt : List ℕ → ℕ → ℕ → ℕ
 fieldAt frame at count = fieldOf (take (min 8 count) (drop at frame))
-
--- its byte i, or 0 past its end
-unfoldable pub fieldByte : List ℕ → ℕ → ℕ → ℕ → ℕ
-fieldByte frame at count i = cond (ltb i count) (getD frame (at + i) 0) 0
-
--- four of its bytes from byte i on
-unfoldable pub fourAt : List ℕ → ℕ → ℕ → ℕ → ℕ
-fourAt frame at count i =
-    fieldByte frame at count i + 256 * fieldByte frame at count (i + 1) + 65536 * fieldByte frame at count (i + 2) + 16777216 * fieldByte frame at count (i + 3)
 
 -- putting a field: the place after it, or number 8 (room short)
 unfoldable pub putAnswer : List ℕ → ℕ → ℕ → ℤ

@@ -1,5 +1,5 @@
 -- 01, The card, step 1: "Under 4 bytes, over 64, or wrong check: silence."; Check and byte order: the check "stands last".
-use Prim.Native.Nat.{ℕ, _+_}
+use Prim.Native.Nat.{ℕ, _+_, _-_, _≤_}
 use mathlib.Core.Bool.{Bool, cond, _&&_}
 use mathlib.Core.List.{List}
 use mathlib.Core.Path.{_≡_}
@@ -19,6 +19,12 @@ longest = 64
 
 unfoldable pub isSound : List ℕ → Bool
 isSound frame = leb shortest (length frame) && (leb (length frame) longest && isSealed frame)
+
+-- "It covers all bytes from the flags on and stands last": a sound frame in these words
+pub record Sound (frame : List ℕ) : Type 0 where
+  pub least : shortest ≤ length frame
+  pub most : length frame ≤ longest
+  pub seal : frame ≡ sealed (take (length frame - 2) frame)
 
 -- appending the check to the first bytes of a buffer: the length with it, or number 8 (room short)
 unfoldable pub sealAnswer : List ℕ → ℕ → ℤ

@@ -1,3 +1,4 @@
 pub mod Flags
 pub mod Field
 pub mod Frame
+pub mod Steps

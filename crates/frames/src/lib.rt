@@ -4,7 +4,8 @@ ghost use Rattle.frames.specs.Flags.{flagsOf};
 ghost use Prim.Native.Nat.{_+_, _*_, _<_, _≤_};
 ghost use lib.ListN.{length, getD};
 ghost use Rattle.lent.specs.Lent.{placed};
-ghost use Rattle.frames.specs.Field.{fieldAt, fieldByte, fourAt, fieldBytes, PutsField};
+ghost use Rattle.frames.specs.Field.{fieldAt, fieldBytes, PutsField};
+ghost use Rattle.frames.specs.Steps.{fieldByte, fourAt};
 ghost use Rattle.frames.specs.Frame.{Seals, isSound};
 
 // The shortest and the longest frame, in bytes.

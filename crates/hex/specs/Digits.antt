@@ -1,4 +1,4 @@
--- 01, What to make: "Numbers in frames are hexadecimal."; Bench: "upper-case hex digits".
+-- 01, What is built: "Numbers in frames are hexadecimal."; Bench: "upper-case hex digits".
 use Prim.Native.Nat.{ℕ, zero, suc, _+_, _-_, _*_, _/_, _%_, _^_}
 use mathlib.Core.Bool.{Bool, true, false, cond, _&&_}
 use mathlib.Core.List.{List, [], _∷_, _++_}

@@ -1,3 +1,4 @@
+-- Steps of private functions: nothing here has to be held against the rules page.
 -- What the functions that put an answer together promise: how many bytes, and that the rest of the buffer is as found.
 use mathlib.Core.Path.{_≡_}
 use mathlib.Core.List.{List}

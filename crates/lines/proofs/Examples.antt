@@ -6,13 +6,7 @@ use mathlib.Core.List.{List, [], _∷_, _++_}
 use lib.ListN.{getD}
 use Rattle.hex.specs.Digits.{digitOf}
 use Rattle.lines.specs.Input.{linesFrom, lines, allDigits, isUid, numberFrom, uidOf, badFrom, badLine, uidsOf, uids}
-
--- "E004010000000011, E004010000000021, E004010000000005", a line each, the last without 0A
-abbrev pub threeLines : List ℕ
-threeLines =
-    0x45 ∷ 0x30 ∷ 0x30 ∷ 0x34 ∷ 0x30 ∷ 0x31 ∷ 0x30 ∷ 0x30 ∷ 0x30 ∷ 0x30 ∷ 0x30 ∷ 0x30 ∷ 0x30 ∷ 0x30 ∷ 0x31 ∷ 0x31
-    ∷ 0x0a ∷ 0x45 ∷ 0x30 ∷ 0x30 ∷ 0x34 ∷ 0x30 ∷ 0x31 ∷ 0x30 ∷ 0x30 ∷ 0x30 ∷ 0x30 ∷ 0x30 ∷ 0x30 ∷ 0x30 ∷ 0x30 ∷ 0x32 ∷ 0x31
-    ∷ 0x0a ∷ 0x45 ∷ 0x30 ∷ 0x30 ∷ 0x34 ∷ 0x30 ∷ 0x31 ∷ 0x30 ∷ 0x30 ∷ 0x30 ∷ 0x30 ∷ 0x30 ∷ 0x30 ∷ 0x30 ∷ 0x30 ∷ 0x30 ∷ 0x35 ∷ []
+use Rattle.lines.specs.Examples.{threeLines}
 
 abbrev pub threeUids : List ℕ
 threeUids = 0xe004010000000011 ∷ 0xe004010000000021 ∷ 0xe004010000000005 ∷ []
@@ -23,7 +17,7 @@ three-fit (suc zero) = omega arith
 three-fit (suc (suc zero)) = omega arith
 three-fit (suc (suc (suc i))) = omega arith
 
--- "the byte 0A, which the last may lack"
+-- an input that is read as these
 pub record ThreeRead (input : List ℕ) : Type 0 where
   pub fine : badLine input ≡ 0
   pub same : uids input ≡ threeUids
@@ -32,6 +26,7 @@ pub three-read : ThreeRead threeLines
 unfolding badLine uids lines linesFrom badFrom isUid allDigits digitOf uidsOf uidOf numberFrom
 three-read = record { fine = refl; same = refl }
 
+-- "the byte 0A, which the last may lack"
 pub three-read-ended : ThreeRead (threeLines ++ 0x0a ∷ [])
 unfolding badLine uids lines linesFrom badFrom isUid allDigits digitOf uidsOf uidOf numberFrom
 three-read-ended = record { fine = refl; same = refl }

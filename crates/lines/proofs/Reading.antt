@@ -13,7 +13,7 @@ use lib.ListN.{length, take, length-append}
 use Rattle.hex.specs.Digits.{digitOf}
 use Rattle.lines.specs.declared.Lines.{Lines}
 use Rattle.lines.specs.Input.{linesFrom, lines, badFrom, badLine, uidsOf, uids}
-use Rattle.lines.specs.Lines.{freshLines, wrong, listed, pushed, longer, lineEnded, stepped, closed, readFrom}
+use Rattle.lines.specs.Lines.{freshLines, wrong, listed, pushed, longer, lineEnded, stepped, closed, readFrom, Reads}
 use Rattle.lines.proofs.LineWays.{longer-wrong, longer-digit, ended-wrong, ended-uid, stepped-end, stepped-longer, isOpen, closed-open, closed-shut}
 use Rattle.lines.proofs.WrongLines.{isGood, bad-line-dead, dead-101, dead-17, dead-digit, short-line, bad-line-most}
 use Rattle.lines.proofs.Begun.{Reading, reading-fresh, reading-listed, reading-pushed, list-more, good-line}
@@ -118,12 +118,6 @@ found (b ∷ bs) s line k =
         → Found s (cond (eqb b 0x0a) (line ∷ linesFrom [] bs) (linesFrom (line ++ b ∷ []) bs)) (readFrom (stepped s b) bs)
     go (yes e) f g = rw (eq-eqb b 0x0a e, ← (stepped-end s b e)) f
     go (no e) f g = rw (ne-eqb b 0x0a e, ← (stepped-longer s b e)) g
-
--- the whole input: the first wrong line; where there is none, the UIDs, 100 at the most
-pub record Reads (input : List ℕ) (r : Lines) : Type 0 where
-  pub bad : r .bad ≡ badLine input
-  pub count : r .count ≤ 100
-  pub listed : r .bad ≡ 0 → take (r .count) (r .uids) ≡ uids input
 
 pub reads-input : (input : List ℕ) → Reads input (readFrom freshLines input)
 unfolding badLine uids lines freshLines

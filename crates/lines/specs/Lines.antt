@@ -1,11 +1,13 @@
 -- 01, Bench: the lines of an input as they are read, byte by byte: what is kept of them, and how a byte changes it.
-use Prim.Native.Nat.{ℕ, _+_, _*_, _%_, _^_}
+use Prim.Native.Nat.{ℕ, _+_, _*_, _%_, _^_, _≤_}
 use mathlib.Core.Bool.{cond, _&&_}
 use mathlib.Core.List.{List, [], _∷_}
+use mathlib.Core.Path.{_≡_}
 use lib.Dec.{ltb, eqb}
-use lib.ListN.{set}
+use lib.ListN.{set, take}
 use Rattle.hex.specs.Digits.{digitOf}
 use Rattle.lines.specs.declared.Lines.{Lines}
+use Rattle.lines.specs.Input.{badLine, uids}
 
 -- "0 to 100 of them": room for 100
 unfoldable pub noLines : List ℕ
@@ -54,3 +56,9 @@ closed s = cond (eqb (s .bad) 0) (cond (eqb (s .digits) 0) s (lineEnded s)) s
 unfoldable pub readFrom : Lines → List ℕ → Lines
 readFrom s [] = closed s
 readFrom s (b ∷ bs) = cond (eqb (s .bad) 0) (readFrom (stepped s b) bs) s
+
+-- what that is: the first wrong line of the input; where there is none, its UIDs, 100 at the most
+pub record Reads (input : List ℕ) (r : Lines) : Type 0 where
+  pub bad : r .bad ≡ badLine input
+  pub count : r .count ≤ 100
+  pub listed : r .bad ≡ 0 → take (r .count) (r .uids) ≡ uids input

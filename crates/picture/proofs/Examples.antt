@@ -1,9 +1,9 @@
 -- 01's bench field, drawn: for the page's three lines the heading, two rounds and the page's printed text, byte for byte. The walk is worked out over
 -- the UIDs alone. Assumes nothing.
 use mathlib.Core.Path.{_≡_, refl, ap, _∙_}
-use Prim.Native.Nat.{ℕ, _*_}
+use Prim.Native.Nat.{_*_}
 use native.Mathlib.Omega.{arith}
-use mathlib.Core.List.{List, [], _∷_, _++_, append-nil}
+use mathlib.Core.List.{[], _++_, append-nil}
 use Rattle.tails.specs.Tails.{ending}
 use Rattle.walk.specs.Marks.{levels, waits, withMark, withoutMark, lowestFrom, lowest, deepestOf, deepest}
 use Rattle.walk.specs.Record as walk
@@ -17,27 +17,14 @@ use Rattle.row.specs.Row.{Played, noBytes}
 use Rattle.row.specs.Play.{noUids, mostSlots, ended}
 use Rattle.row.proofs.SlotsAlike.{benchOf}
 use Rattle.row.proofs.Meaning.{tagsOf, tags-obey, tags-answer, freshField, bench-is-a-field}
-use Rattle.lines.proofs.Examples.{threeLines, three-fit, three-read}
+use Rattle.lines.proofs.Examples.{three-fit, three-read}
 use Rattle.hex.specs.Digits.{digit, hexDigits}
 use Rattle.rack.specs.Output.{decimal}
-use Rattle.rack.specs.Bench.{printed}
-use Rattle.rack.proofs.Examples.{threePrinted, bench}
+use Rattle.rack.proofs.Examples.{bench}
 use Rattle.picture.specs.Drawn.{roundShown, tailShown, lineHead, heading, twinsLine, drawn, pictured}
 use Rattle.picture.specs.Meaning.{signFor}
+use Rattle.picture.specs.Examples.{threeDrawn, ThreeDrawn}
 use Rattle.picture.proofs.OverUids.{signed, overUids, bench-drawn}
-
--- the heading, round 1 over all, and round 2 over those that end in 1
-abbrev pub threeDrawn : List ℕ
-threeDrawn =
-    0x72 ∷ 0x6f ∷ 0x75 ∷ 0x6e ∷ 0x64 ∷ 0x20
-    ∷ 0x74 ∷ 0x61 ∷ 0x69 ∷ 0x6c ∷ 0x20 ∷ 0x20 ∷ 0x20 ∷ 0x20 ∷ 0x20 ∷ 0x20 ∷ 0x20 ∷ 0x20 ∷ 0x20 ∷ 0x20 ∷ 0x20 ∷ 0x20 ∷ 0x20
-    ∷ 0x30 ∷ 0x31 ∷ 0x32 ∷ 0x33 ∷ 0x34 ∷ 0x35 ∷ 0x36 ∷ 0x37 ∷ 0x38 ∷ 0x39 ∷ 0x41 ∷ 0x42 ∷ 0x43 ∷ 0x44 ∷ 0x45 ∷ 0x46 ∷ 0x0a
-    ∷ 0x20 ∷ 0x20 ∷ 0x20 ∷ 0x20 ∷ 0x31 ∷ 0x20
-    ∷ 0x2d ∷ 0x2d ∷ 0x2d ∷ 0x2d ∷ 0x2d ∷ 0x2d ∷ 0x2d ∷ 0x2d ∷ 0x2d ∷ 0x2d ∷ 0x2d ∷ 0x2d ∷ 0x2d ∷ 0x2d ∷ 0x2d ∷ 0x2d ∷ 0x20
-    ∷ 0x2e ∷ 0x23 ∷ 0x2e ∷ 0x2e ∷ 0x2e ∷ 0x6f ∷ 0x2e ∷ 0x2e ∷ 0x2e ∷ 0x2e ∷ 0x2e ∷ 0x2e ∷ 0x2e ∷ 0x2e ∷ 0x2e ∷ 0x2e ∷ 0x0a
-    ∷ 0x20 ∷ 0x20 ∷ 0x20 ∷ 0x20 ∷ 0x32 ∷ 0x20
-    ∷ 0x2d ∷ 0x2d ∷ 0x2d ∷ 0x2d ∷ 0x2d ∷ 0x2d ∷ 0x2d ∷ 0x2d ∷ 0x2d ∷ 0x2d ∷ 0x2d ∷ 0x2d ∷ 0x2d ∷ 0x2d ∷ 0x2d ∷ 0x31 ∷ 0x20
-    ∷ 0x2e ∷ 0x6f ∷ 0x6f ∷ 0x2e ∷ 0x2e ∷ 0x2e ∷ 0x2e ∷ 0x2e ∷ 0x2e ∷ 0x2e ∷ 0x2e ∷ 0x2e ∷ 0x2e ∷ 0x2e ∷ 0x2e ∷ 0x2e ∷ 0x0a ∷ []
 
 three-over : heading ++ overUids three mostSlots (record { walk = started 256; list = noUids }) ≡ threeDrawn
 unfolding heading mostSlots overUids signed signFor lineHead roundShown tailShown decimal digit hexDigits stood isRunning started noMarks noUids walkAfter listAfter endsAtOnce noted listNoted passed turned walk.ended counted marked atNextSlot opened openedAt remade openedMask maskLength withMark withoutMark waits lowest lowestFrom deepest deepestOf levels places mostRounds called ending slotOf
@@ -56,9 +43,6 @@ unfolding twinsLine
 no-twins = rw three-ends refl
 
 -- ---- the picture
-
-pub record ThreeDrawn : Type 0 where
-  pub draws : pictured threeLines ≡ threeDrawn ++ threePrinted
 
 three-drawn : drawn three ≡ threeDrawn
 unfolding drawn

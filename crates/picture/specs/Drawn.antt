@@ -48,14 +48,14 @@ drawnFor (suc n) p =
     (slotDrawn w (rowAir w stillAir (p .row)) (slotPlayed p .desk .walk) ++ drawnFor n (slotPlayed p))
     []
 
--- "round tail             0123456789ABCDEF"
+-- `round tail             0123456789ABCDEF`
 unfoldable pub heading : List ℕ
 heading =
     0x72 ∷ 0x6f ∷ 0x75 ∷ 0x6e ∷ 0x64 ∷ 0x20 ∷ 0x74 ∷ 0x61 ∷ 0x69 ∷ 0x6c ∷ 0x20 ∷ 0x20 ∷ 0x20 ∷ 0x20 ∷ 0x20 ∷ 0x20 ∷ 0x20 ∷ 0x20
     ∷ 0x20 ∷ 0x20 ∷ 0x20 ∷ 0x20 ∷ 0x20 ∷ 0x30 ∷ 0x31 ∷ 0x32 ∷ 0x33 ∷ 0x34 ∷ 0x35 ∷ 0x36 ∷ 0x37 ∷ 0x38 ∷ 0x39 ∷ 0x41 ∷ 0x42 ∷ 0x43
     ∷ 0x44 ∷ 0x45 ∷ 0x46 ∷ 0x0a ∷ []
 
--- the UID that two cards share, where the walk ended in twins: the slot digit above the mask of 15 digits. "twins "
+-- the UID that two cards share, where the walk ended in twins: the slot digit above the mask of 15 digits, after the word twins
 unfoldable pub twinsLine : Desk → List ℕ
 twinsLine d =
     cond (eqb (d .walk .ending) twins)

@@ -1,2 +1,3 @@
 pub mod Drawn
 pub mod Meaning
+pub mod Examples

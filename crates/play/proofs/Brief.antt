@@ -12,7 +12,8 @@ use Rattle.card.proofs.Reply.{the-type}
 use Rattle.card.specs.declared.Card.{Card}
 use Rattle.card.specs.declared.Reply.{Reply}
 use Rattle.card.specs.declared.Reply.the-variants.{Silence, Error, Done, Present, Blocks, Status, Information}
-use Rattle.play.specs.Fits.{isBrief, replyFits}
+use Rattle.play.specs.Fits.{replyFits}
+use Rattle.play.specs.Steps.{isBrief}
 use Rattle.play.specs.Answer.{replyBytes}
 use Rattle.play.proofs.Answers.{length-presence}
 

@@ -24,9 +24,9 @@ use Rattle.play.proofs.Room.{silence-length}
 use Rattle.play.specs.declared.Served.{Served}
 use Rattle.play.specs.Effects.{memoryAfter, locksAfter}
 use Rattle.play.specs.Refusal.{refusal}
-use Rattle.play.specs.Fits.{isBrief}
+use Rattle.play.specs.Steps.{isBrief, Finishes}
 use Rattle.play.specs.Answer.{replyBytes}
-use Rattle.play.specs.Events.{lengthTold, answered, Outcome, replied, unserved, event, carriedOut, Finishes, Leaves}
+use Rattle.play.specs.Events.{lengthTold, answered, Outcome, replied, unserved, event, carriedOut, Leaves}
 
 module _ (c : Card) (memory locks found : List ℕ) (served : Outcome) where
   pub event-refused : (n : ℕ) → n ≡ refusal c (length memory) locks (length found) → (n ≡ 0 → ⊥)

@@ -19,7 +19,8 @@ use Rattle.card.specs.Mark.{marked}
 use Rattle.card.proofs.Accepted.{tests-of}
 use Rattle.card.proofs.Changes.{marked-keeps}
 use Rattle.play.specs.Refusal.{lengthsFit, roomFits, refusal}
-use Rattle.play.specs.Fits.{effectFits, isBrief, replyFits, Ready, DeedReady, Kept, DeedFits}
+use Rattle.play.specs.Fits.{effectFits, replyFits, Kept, DeedFits}
+use Rattle.play.specs.Steps.{isBrief, Ready, DeedReady}
 use Rattle.play.proofs.Shape.{accepted-shape}
 use Rattle.play.proofs.Brief.{brief-fits}
 use Rattle.play.proofs.Kept.{self-kept, kept-changes}

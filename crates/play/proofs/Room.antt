@@ -14,8 +14,9 @@ use Rattle.card.specs.declared.Reply.{Reply}
 use Rattle.card.specs.declared.Reply.the-variants.{Silence, Error, Done, Present, Blocks, Status, Information}
 use Rattle.play.specs.Refusal.{roomFits}
 use Rattle.lent.specs.Puts.{Puts}
-use Rattle.play.specs.Fits.{isBrief, replyFits, Ready}
-use Rattle.play.specs.Answer.{replyBytes, locksRead, PutsReply}
+use Rattle.play.specs.Fits.{replyFits}
+use Rattle.play.specs.Steps.{isBrief, Ready, PutsReply}
+use Rattle.play.specs.Answer.{replyBytes, locksRead}
 use Rattle.play.proofs.Within.{blocks-within, status-within}
 use Rattle.play.proofs.Answers.{length-presence, length-information}
 use Rattle.play.proofs.Blocks.{blocks-most}

@@ -27,7 +27,8 @@ use Rattle.requests.proofs.Keeps.{decided-keeps}
 use Rattle.play.specs.Refusal.{lengthsFit, locksFit, roomFits, refusal, Accepted}
 use Rattle.play.specs.Effects.{memoryAfter, locksAfter}
 use Rattle.play.specs.Answer.{replyBytes}
-use Rattle.play.specs.Fits.{effectFits, replyFits, DeedReady, Kept}
+use Rattle.play.specs.Fits.{effectFits, replyFits, Kept}
+use Rattle.play.specs.Steps.{DeedReady}
 use Rattle.play.specs.Events.{answered, Outcome, replied, event, carriedOut, frameEvent, markEvent, offEvent, AcceptedNext}
 use Rattle.play.proofs.Within.{Written, write-within}
 use Rattle.play.proofs.Room.{reply-room}

@@ -14,7 +14,7 @@ use Rattle.card.specs.declared.Held.the-variants.{Free, Success, Code}
 use Rattle.card.specs.declared.Turn.{Turn}
 use Rattle.card.specs.Inventory.{present, joins, inventoried, isInventory, takesPart, lengthPlace}
 use Rattle.card.specs.Mark.{marked, released, moved}
-use Rattle.play.specs.Fits.{isBrief}
+use Rattle.play.specs.Steps.{isBrief}
 
 abbrev Brief : Turn → Type 0
 Brief t = isBrief (t .reply) ≡ true

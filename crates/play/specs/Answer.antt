@@ -1,9 +1,8 @@
--- 01, The card: the bytes of each answer, without the check. "error answers (01, code, check)"; "effect and answer after 00".
-use Prim.Native.Nat.{ℕ, zero, suc, _+_, _-_, _*_, _≤_}
+-- 01, The card: the bytes of each answer, without the check.
+use Prim.Native.Nat.{ℕ, zero, suc, _+_, _-_, _*_}
 use mathlib.Core.Bool.{Bool, cond}
 use mathlib.Core.List.{List, [], _∷_, _++_}
-use lib.ListN.{length, take, drop, getD}
-use Rattle.lent.specs.Puts.{Puts}
+use lib.ListN.{take, drop, getD}
 use Rattle.frames.specs.Field.{fieldBytes}
 use Rattle.card.specs.declared.Card.{Card}
 use Rattle.card.specs.declared.Reply.{Reply}
@@ -17,13 +16,13 @@ blockOf memory size block = take size (drop (block * size) memory)
 unfoldable pub blockRead : List ℕ → List ℕ → ℕ → Bool → ℕ → List ℕ
 blockRead memory locks size option block = cond option (getD locks block 0 ∷ []) [] ++ blockOf memory size block
 
--- 23: so many blocks from the first on, "each as 20"
+-- 23: "n+1 blocks, each as 20", so many from the first on
 unfoldable pub blocksRead : List ℕ → List ℕ → ℕ → Bool → ℕ → ℕ → List ℕ
 blocksRead memory locks size option first zero = []
 blocksRead memory locks size option first (suc n) =
     blocksRead memory locks size option first n ++ blockRead memory locks size option (first + n)
 
--- 2C: so many lock bytes from the first on
+-- 2C: "n+1 lock bytes", so many from the first on
 unfoldable pub locksRead : List ℕ → ℕ → ℕ → List ℕ
 locksRead locks first n = take n (drop first locks)
 
@@ -35,7 +34,7 @@ information c = (0x0f ∷ fieldBytes 8 (c .uid)) ++ c .dsfid ∷ c .afi ∷ (c .
 unfoldable pub presence : Card → List ℕ
 presence c = c .dsfid ∷ fieldBytes 8 (c .uid)
 
--- each reply; silence has no byte
+-- each reply: "error answers (01, code, check)", the table's "answer after 00"; silence has no byte
 unfoldable pub replyBytes : Card → List ℕ → List ℕ → Reply → List ℕ
 replyBytes c memory locks Silence = []
 replyBytes c memory locks (Error code) = 0x01 ∷ code ∷ []
@@ -44,8 +43,3 @@ replyBytes c memory locks Present = 0x00 ∷ presence c
 replyBytes c memory locks (Blocks first n option) = 0x00 ∷ blocksRead memory locks (c .size) option first n
 replyBytes c memory locks (Status first n) = 0x00 ∷ locksRead locks first n
 replyBytes c memory locks Information = 0x00 ∷ information c
-
--- what the functions that put a whole reply promise: its bytes at the start of the buffer, with room for the check behind them
-pub record PutsReply (bytes buffer : List ℕ) (r : ℕ) (left : List ℕ) : Type 0 where
-  pub puts : Puts bytes buffer r left
-  pub room : r + 2 ≤ length buffer

@@ -7,13 +7,13 @@ use Rattle.card.specs.declared.Card.{Card}
 use Rattle.requests.specs.declared.Effect.{Effect}
 use Rattle.requests.specs.declared.Effect.the-variants.{Leave, Write, Lock}
 
--- 21: the data stand in the frame from a place on, as many bytes as a block has
+-- 21: "write", the data stand in the frame from a place on, as many bytes as a block has
 unfoldable pub memoryAfter : Card → List ℕ → List ℕ → Effect → List ℕ
 memoryAfter c frame memory Leave = memory
 memoryAfter c frame memory (Write block place) = placed (block * c .size) (take (c .size) (drop place frame)) memory
 memoryAfter c frame memory (Lock block) = memory
 
--- 22
+-- 22: "lock", the block's lock byte is 1
 unfoldable pub locksAfter : List ℕ → Effect → List ℕ
 locksAfter locks Leave = locks
 locksAfter locks (Write block place) = locks

@@ -4,7 +4,7 @@ use mathlib.Core.Bool.{cond}
 use mathlib.Core.List.{List}
 use mathlib.Core.Path.{_≡_}
 use lib.Dec.{eqb}
-use lib.ListN.{length, take}
+use lib.ListN.{length}
 use Rattle.lent.specs.Lent.{over}
 use Rattle.crc.specs.Check.{sealed}
 use Rattle.card.specs.declared.Card.{Card}
@@ -26,11 +26,6 @@ lengthTold body = cond (eqb (length body) 0) 0 (length body + 2)
 -- "Silence leaves the answer buffer as found.": else the answer with its check, and the bytes past it as found
 unfoldable pub answered : List ℕ → List ℕ → List ℕ
 answered body found = cond (eqb (length body) 0) found (over (sealed body) found)
-
--- what `finish` promises for n bytes at the start of a buffer: nothing for none, else their length with the check, which is appended
-pub record Finishes (n : ℕ) (buffer : List ℕ) (r : ℕ) (left : List ℕ) : Type 0 where
-  pub told : r ≡ cond (eqb n 0) 0 (n + 2)
-  pub leaves : left ≡ cond (eqb n 0) buffer (over (sealed (take n buffer)) buffer)
 
 -- all that a call leaves behind: number is the refusal, 0 where it is served, and told the answer's length
 pub record Outcome : Type 0 where
@@ -63,9 +58,12 @@ event c memory locks found served =
     let n : ℕ = refusal c (length memory) locks (length found) in
     cond (eqb n 0) served (unserved c memory locks found n)
 
+-- what was decided, carried out over memory and locks
 unfoldable pub carriedOut : Deed → List ℕ → List ℕ → List ℕ → List ℕ → Outcome
 carriedOut d frame memory locks found =
     replied (d .card) (memoryAfter (d .card) frame memory (d .effect)) (locksAfter locks (d .effect)) (d .reply) found
+
+-- ---- "Three events: frame, slot mark, power off."
 
 unfoldable pub frameEvent : Card → List ℕ → List ℕ → List ℕ → List ℕ → Outcome
 frameEvent c frame memory locks found = event c memory locks found (carriedOut (decided c locks frame) frame memory locks found)

@@ -8,11 +8,11 @@ use lib.ListN.{length}
 use Rattle.card.specs.declared.Card.{Card}
 use Rattle.card.specs.Record.{isAccepted}
 
--- 2: "memory or lock bytes of another length"
+-- 2: "memory or lock bytes of another length"; "in a lent memory of exactly that product, with one lent lock byte per block"
 unfoldable pub lengthsFit : Card → ℕ → ℕ → Bool
 lengthsFit c memory locks = eqb memory (c .blocks * c .size) && eqb locks (c .blocks)
 
--- 3: "a lock byte over 1"
+-- 3: "a lock byte over 1"; "one lent lock byte per block (0 or 1)"
 unfoldable pub locksFit : List ℕ → Bool
 locksFit [] = true
 locksFit (b ∷ locks) = leb b 1 && locksFit locks
@@ -21,7 +21,7 @@ locksFit (b ∷ locks) = leb b 1 && locksFit locks
 unfoldable pub roomFits : Card → ℕ → Bool
 roomFits c room = leb 32 room && leb (3 + c .blocks * (c .size + 1)) room
 
--- the number of the refusal, or 0 where the call is served
+-- "card, for each of the three events, 1, 2, 3, 4": the number of the refusal, or 0 where the call is served
 unfoldable pub refusal : Card → ℕ → List ℕ → ℕ → ℕ
 refusal c memory locks room =
     cond (isAccepted c)

@@ -1,8 +1,8 @@
 // A frame, a slot mark, power off.
 ghost use Prim.Native.Nat.{_+_, _≤_};
 ghost use lib.ListN.{length};
-ghost use Rattle.play.specs.Fits.{DeedReady};
-ghost use Rattle.play.specs.Events.{Finishes, carriedOut, frameEvent, markEvent, offEvent, Leaves};
+ghost use Rattle.play.specs.Steps.{DeedReady, Finishes};
+ghost use Rattle.play.specs.Events.{carriedOut, frameEvent, markEvent, offEvent, Leaves};
 use crate::Served;
 use crate::answer::put_brief;
 use crate::answer::put_reply;

@@ -1,3 +1,4 @@
+-- Steps of private functions: nothing here has to be held against the rules page.
 -- The manual page, Output: the record of a card as a line of text. Its bytes are those of crates/record/specs/Record.antt.
 use Prim.Native.Nat.{ℕ}
 use mathlib.Core.Bool.{cond}
@@ -10,14 +11,14 @@ use Rattle.hex.specs.Rows.{rowText}
 abbrev pub pairText : List ℕ → ℕ → List ℕ
 pairText name b = name ++ rowText (b ∷ [])
 
--- "Ready, Quiet or Selected": `  mode Ready`, `  mode Quiet` or `  mode Selected`, on the next line
+-- one of `  mode Ready`, `  mode Quiet` or `  mode Selected`, on the next line
 unfoldable pub modeText : ℕ → List ℕ
 modeText mode =
     cond (eqb mode 0) (0x0a ∷ 0x20 ∷ 0x20 ∷ 0x6d ∷ 0x6f ∷ 0x64 ∷ 0x65 ∷ 0x20 ∷ 0x52 ∷ 0x65 ∷ 0x61 ∷ 0x64 ∷ 0x79 ∷ [])
     (cond (eqb mode 1) (0x0a ∷ 0x20 ∷ 0x20 ∷ 0x6d ∷ 0x6f ∷ 0x64 ∷ 0x65 ∷ 0x20 ∷ 0x51 ∷ 0x75 ∷ 0x69 ∷ 0x65 ∷ 0x74 ∷ [])
     (0x0a ∷ 0x20 ∷ 0x20 ∷ 0x6d ∷ 0x6f ∷ 0x64 ∷ 0x65 ∷ 0x20 ∷ 0x53 ∷ 0x65 ∷ 0x6c ∷ 0x65 ∷ 0x63 ∷ 0x74 ∷ 0x65 ∷ 0x64 ∷ []))
 
--- "If a sequence runs": `, slot`, `, mask length` and `, mask`, each with its pairs
+-- if a sequence runs: `, slot`, `, mask length` and `, mask`, each with its pairs
 unfoldable pub sequenceText : List ℕ → List ℕ
 sequenceText card =
     cond (eqb (getD card 22 0) 0) []
@@ -25,14 +26,14 @@ sequenceText card =
     ++ pairText (0x2c ∷ 0x20 ∷ 0x6d ∷ 0x61 ∷ 0x73 ∷ 0x6b ∷ 0x20 ∷ 0x6c ∷ 0x65 ∷ 0x6e ∷ 0x67 ∷ 0x74 ∷ 0x68 ∷ []) (getD card 24 0)
     ++ ((0x2c ∷ 0x20 ∷ 0x6d ∷ 0x61 ∷ 0x73 ∷ 0x6b ∷ []) ++ rowText (take 8 (drop 32 card))))
 
--- "If an answer is held": `, held success`, or `, held error` and its pair
+-- if an answer is held: `, held success`, or `, held error` and its pair
 unfoldable pub heldText : ℕ → List ℕ
 heldText held =
     cond (eqb held 0) []
     (cond (eqb held 1) (0x2c ∷ 0x20 ∷ 0x68 ∷ 0x65 ∷ 0x6c ∷ 0x64 ∷ 0x20 ∷ 0x73 ∷ 0x75 ∷ 0x63 ∷ 0x63 ∷ 0x65 ∷ 0x73 ∷ 0x73 ∷ [])
     (pairText (0x2c ∷ 0x20 ∷ 0x68 ∷ 0x65 ∷ 0x6c ∷ 0x64 ∷ 0x20 ∷ 0x65 ∷ 0x72 ∷ 0x72 ∷ 0x6f ∷ 0x72 ∷ []) held))
 
--- a name and a pair, "Each followed by locked if it is."
+-- a name and a pair, then ` locked` if it is locked
 unfoldable pub keptText : List ℕ → ℕ → ℕ → List ℕ
 keptText name b lock = cond (eqb lock 0) (pairText name b) (pairText name b ++ (0x20 ∷ 0x6c ∷ 0x6f ∷ 0x63 ∷ 0x6b ∷ 0x65 ∷ 0x64 ∷ []))
 

@@ -1,3 +1,4 @@
+-- Steps of private functions: nothing here has to be held against the rules page.
 -- A text is put together piece by piece in a buffer, and cut off at the buffer's end.
 use Prim.Native.Nat.{ℕ, _+_, _-_}
 use mathlib.Core.Path.{_≡_}

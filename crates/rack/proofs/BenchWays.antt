@@ -12,10 +12,11 @@ use Rattle.lent.specs.Puts.{Puts}
 use Rattle.row.specs.declared.Desk.{Desk}
 use Rattle.row.specs.Play.{ended}
 use Rattle.lines.specs.declared.Lines.{Lines}
-use Rattle.lines.specs.Lines.{freshLines, readFrom}
-use Rattle.lines.proofs.Reading.{Reads, reads-of-read}
+use Rattle.lines.specs.Lines.{freshLines, readFrom, Reads}
+use Rattle.lines.proofs.Reading.{reads-of-read}
 use Rattle.rack.specs.Output.{report, complaint}
-use Rattle.rack.specs.Bench.{printed, answerTo, mostPrinted, benchAnswer, benchLeaves, Prints}
+use Rattle.rack.specs.Bench.{printed, mostPrinted, benchAnswer, benchLeaves, Prints}
+use Rattle.rack.specs.Steps.{answerTo}
 
 -- what is printed of the lines is what is printed of the input
 pub answer-printed : (input : List ℕ) (s : Lines) → s ≡ readFrom freshLines input → answerTo s ≡ printed input

@@ -14,7 +14,8 @@ use lib.Pow.{shr-shr}
 use Rattle.lent.specs.Puts.{PutsAt}
 use Rattle.hex.specs.Digits.{digit, hexDigits}
 use Rattle.hex.proofs.Digits.{length-hex-digits}
-use Rattle.rack.specs.Output.{word, decimal, Spells}
+use Rattle.rack.specs.Output.{word, decimal}
+use Rattle.rack.specs.Steps.{Spells}
 use Rattle.lent.proofs.Puts.{puts-none, puts-more}
 
 -- ---- decimal

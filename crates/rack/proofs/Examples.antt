@@ -15,25 +15,12 @@ use Rattle.row.specs.Row.{Played, noBytes}
 use Rattle.row.specs.Play.{noUids, mostSlots, ended}
 use Rattle.row.proofs.SlotsAlike.{benchOf}
 use Rattle.row.proofs.Meaning.{tagsOf, tags-obey, tags-answer, freshField, bench-is-a-field}
-use Rattle.lines.proofs.Examples.{threeLines, ThreeRead, three-fit, three-read, three-read-ended}
+use Rattle.lines.specs.Examples.{threeLines}
+use Rattle.lines.proofs.Examples.{ThreeRead, three-fit, three-read, three-read-ended}
 use Rattle.hex.specs.Digits.{digit, hexDigits}
 use Rattle.rack.specs.Output.{word, decimal, uidLines, verdictLine, heading, report}
 use Rattle.rack.specs.Bench.{printed}
-
--- "it prints, whole": verdict complete, rounds 2, cards 3, and the three UIDs
-abbrev pub threePrinted : List ℕ
-threePrinted =
-    0x76 ∷ 0x65 ∷ 0x72 ∷ 0x64 ∷ 0x69 ∷ 0x63 ∷ 0x74 ∷ 0x20 ∷ 0x63 ∷ 0x6f ∷ 0x6d ∷ 0x70 ∷ 0x6c ∷ 0x65 ∷ 0x74 ∷ 0x65 ∷ 0x0a
-    ∷ 0x72 ∷ 0x6f ∷ 0x75 ∷ 0x6e ∷ 0x64 ∷ 0x73 ∷ 0x20 ∷ 0x32 ∷ 0x0a
-    ∷ 0x63 ∷ 0x61 ∷ 0x72 ∷ 0x64 ∷ 0x73 ∷ 0x20 ∷ 0x33 ∷ 0x0a
-    ∷ 0x45 ∷ 0x30 ∷ 0x30 ∷ 0x34 ∷ 0x30 ∷ 0x31 ∷ 0x30 ∷ 0x30 ∷ 0x30 ∷ 0x30 ∷ 0x30 ∷ 0x30 ∷ 0x30 ∷ 0x30 ∷ 0x30 ∷ 0x35 ∷ 0x0a
-    ∷ 0x45 ∷ 0x30 ∷ 0x30 ∷ 0x34 ∷ 0x30 ∷ 0x31 ∷ 0x30 ∷ 0x30 ∷ 0x30 ∷ 0x30 ∷ 0x30 ∷ 0x30 ∷ 0x30 ∷ 0x30 ∷ 0x31 ∷ 0x31 ∷ 0x0a
-    ∷ 0x45 ∷ 0x30 ∷ 0x30 ∷ 0x34 ∷ 0x30 ∷ 0x31 ∷ 0x30 ∷ 0x30 ∷ 0x30 ∷ 0x30 ∷ 0x30 ∷ 0x30 ∷ 0x30 ∷ 0x30 ∷ 0x32 ∷ 0x31 ∷ 0x0a ∷ []
-
--- "For E004010000000011, E004010000000021, E004010000000005 it prints, whole", "the byte 0A, which the last may lack"
-pub record Bench : Type 0 where
-  pub prints : printed threeLines ≡ threePrinted
-  pub prints-ended : printed (threeLines ++ 0x0a ∷ []) ≡ threePrinted
+use Rattle.rack.specs.Examples.{threePrinted, Bench}
 
 -- ---- the report of the field's walk
 

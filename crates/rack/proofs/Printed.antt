@@ -11,7 +11,8 @@ use Rattle.lent.specs.Puts.{Puts, PutsAt}
 use Rattle.walk.specs.declared.Walk.{Walk}
 use Rattle.row.specs.declared.Desk.{Desk}
 use Rattle.rack.specs.declared.output.Piece.{Piece}
-use Rattle.rack.specs.Output.{decimal, Spells, uidLines, verdictLine, heading, report}
+use Rattle.rack.specs.Output.{decimal, uidLines, verdictLine, heading, report}
+use Rattle.rack.specs.Steps.{Spells}
 use Rattle.lent.proofs.Puts.{puts-none, puts-then, puts-more, puts-start}
 use Rattle.hex.specs.Digits.{hexDigits}
 use Rattle.hex.proofs.Digits.{length-hex-digits}

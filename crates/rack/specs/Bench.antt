@@ -5,19 +5,14 @@ use mathlib.Core.List.{List}
 use mathlib.Core.Path.{_≡_}
 use lib.Dec.{leb, eqb}
 use lib.IntN.{ℤ, pos}
-use lib.ListN.{length, take}
+use lib.ListN.{length}
 use Rattle.lent.specs.Lent.{over, refused}
 use Rattle.row.specs.Play.{ended}
-use Rattle.lines.specs.declared.Lines.{Lines}
 use Rattle.lines.specs.Input.{badLine, uids}
 use Rattle.rack.specs.Output.{report, complaint}
 
 unfoldable pub printed : List ℕ → List ℕ
 printed input = cond (eqb (badLine input) 0) (report (ended (uids input))) (complaint (badLine input))
-
--- the same, of the lines that were read
-unfoldable pub answerTo : Lines → List ℕ
-answerTo s = cond (eqb (s .bad) 0) (report (ended (take (s .count) (s .uids)))) (complaint (s .bad))
 
 -- room for all that can be printed
 unfoldable pub mostPrinted : ℕ

@@ -1,2 +1,4 @@
 pub mod Output
 pub mod Bench
+pub mod Steps
+pub mod Examples

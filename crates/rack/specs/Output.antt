@@ -1,15 +1,13 @@
 -- 01, Bench: what is printed, byte for byte.
-use Prim.Native.Nat.{ℕ, _/_, _%_, _≤_}
-use mathlib.Core.Path.{_≡_}
+use Prim.Native.Nat.{ℕ, _/_, _%_}
 use mathlib.Core.Bool.{cond}
 use mathlib.Core.List.{List, [], _∷_, _++_}
 use lib.Dec.{ltb, eqb}
-use lib.ListN.{length, take}
+use lib.ListN.{take}
 use Rattle.hex.specs.Digits.{digit, hexDigits}
 use Rattle.walk.specs.declared.Walk.{Walk}
 use Rattle.walk.specs.Record.{complete, twins, full}
 use Rattle.row.specs.declared.Desk.{Desk}
-use Rattle.rack.specs.declared.output.Piece.{Piece}
 
 -- "The words are complete, twins, full, overrun": ending 1, 2, 3, all else
 unfoldable pub word : ℕ → List ℕ
@@ -25,27 +23,23 @@ decimal n =
     cond (ltb n 10) (digit n ∷ [])
     (cond (ltb n 100) (digit (n / 10) ∷ digit (n % 10) ∷ []) (digit (n / 100) ∷ digit (n / 10 % 10) ∷ digit (n % 10) ∷ []))
 
--- what the functions that spell a word or a number promise: the first bytes of a piece
-pub record Spells (s : List ℕ) (r : Piece) : Type 0 where
-  pub few : r .count ≤ length (r .bytes)
-  pub first : take (r .count) (r .bytes) ≡ s
-
 -- a UID a line
 unfoldable pub uidLines : List ℕ → List ℕ
 uidLines [] = []
 uidLines (u ∷ us) = hexDigits 16 u ++ 0x0a ∷ uidLines us
 
--- "verdict", "rounds", "cards"
+-- the lines `verdict`, `rounds` and `cards`
 unfoldable pub verdictLine : ℕ → List ℕ
 verdictLine ending = 0x76 ∷ 0x65 ∷ 0x72 ∷ 0x64 ∷ 0x69 ∷ 0x63 ∷ 0x74 ∷ 0x20 ∷ word ending
 
+-- "cards is the list's length"
 unfoldable pub heading : Walk → List ℕ
 heading w =
     verdictLine (w .ending)
     ++ 0x0a ∷ 0x72 ∷ 0x6f ∷ 0x75 ∷ 0x6e ∷ 0x64 ∷ 0x73 ∷ 0x20 ∷ decimal (w .rounds)
     ++ 0x0a ∷ 0x63 ∷ 0x61 ∷ 0x72 ∷ 0x64 ∷ 0x73 ∷ 0x20 ∷ decimal (w .count)
 
--- and the list
+-- "the UIDs follow in list order"
 unfoldable pub report : Desk → List ℕ
 report d = heading (d .walk) ++ 0x0a ∷ uidLines (take (d .walk .count) (d .list))
 

@@ -2,7 +2,8 @@
 ghost use Prim.Native.Nat.{_<_, _≤_};
 ghost use lib.ListN.{length};
 ghost use Rattle.lent.specs.Puts.{Puts};
-ghost use Rattle.rack.specs.Bench.{answerTo, Prints};
+ghost use Rattle.rack.specs.Bench.{Prints};
+ghost use Rattle.rack.specs.Steps.{answerTo};
 use crate::output::put_complaint;
 use crate::output::put_report;
 use lines::Lines;

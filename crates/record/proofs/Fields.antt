@@ -5,7 +5,8 @@ use Prim.Native.Nat.{ℕ, _+_, _*_}
 use native.Mathlib.Nat.{add-zero}
 use native.Mathlib.Omega.{arith}
 use lib.ListN.{getD}
-use Rattle.frames.specs.Field.{fieldAt, fieldByte, fourAt}
+use Rattle.frames.specs.Field.{fieldAt}
+use Rattle.frames.specs.Steps.{fieldByte, fourAt}
 use Rattle.frames.proofs.Fields.{field-of-fours}
 
 pub four-of-bytes : (bytes : List ℕ) (at : ℕ)

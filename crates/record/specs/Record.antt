@@ -35,11 +35,12 @@ modeOf b = cond (eqb b 0) Ready (cond (eqb b 1) Quiet Selected)
 unfoldable pub sequenceOf : ℕ → ℕ → ℕ → ℕ → Sequence
 sequenceOf b slot n mask = cond (eqb b 0) Idle (Running slot n mask)
 
--- "A held answer is success or an error code": 0 is none, 1 success, all else a code, which number 1 judges
+-- "an answer that may be held": 0 is none, 1 success, all else a code, which number 1 judges
 unfoldable pub heldOf : ℕ → Held
 heldOf b = cond (eqb b 0) Free (cond (eqb b 1) Success (Code b))
 
--- "The record holds the UID (64 bits), AFI, DSFID, a lock flag for each of the two, an IC reference, the mode .., a slot sequence .., and an answer"
+-- "The record holds the UID (64 bits), AFI, DSFID, a lock flag for each of the two, an IC reference, the mode (Ready, Quiet, Selected), a slot
+-- sequence that may be running, and an answer that may be held."; before these, its shape
 unfoldable pub cardOf : List ℕ → Card
 cardOf bytes =
     record {

@@ -1,10 +1,10 @@
--- 01, The card, "Order for a frame", steps 1 and 2.
+-- 01, The card, "Order for a frame", steps 1 and 2; step 3 is in crates/card, steps 4 to 6 are in Request.antt.
 use Prim.Native.Nat.{ℕ}
-use mathlib.Core.Bool.{cond, _||_}
+use mathlib.Core.Bool.{cond}
 use mathlib.Core.List.{List}
 use lib.ListN.{getD}
 use Rattle.frames.specs.declared.Flags.{Flags}
-use Rattle.frames.specs.Flags.{flagsOf}
+use Rattle.frames.specs.Flags.{flagsOf, asksInventory, setsReserved}
 use Rattle.frames.specs.Frame.{isSound}
 use Rattle.card.specs.declared.Card.{Card}
 use Rattle.card.specs.declared.Turn.{Turn}
@@ -24,5 +24,5 @@ decided card locks frame =
     let c : Card = cleared card in
     let f : Flags = flagsOf (getD frame 0 0) in
     cond (isSound frame)
-    (cond (f .b4 || f .b8) (silent c) (cond (f .b3) (leaving (inventoried c f frame)) (requested c locks f frame)))
+    (cond (setsReserved f) (silent c) (cond (asksInventory f) (leaving (inventoried c f frame)) (requested c locks f frame)))
     (silent c)

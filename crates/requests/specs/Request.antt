@@ -1,10 +1,13 @@
--- 01, The card, steps 4 to 6: "b3=0".
+-- 01, The card, steps 4 to 6, where b3=0. A definition stands before its use, so the page runs backwards here: read from the end up, step 4
+-- (`requested`, `addressed`, `unaddressed`, `passedBy`), step 5 (`sorted`, `quieted`), step 6 (`judged`, with `isListed`, `bodyAsked`,
+-- `refusesOption`), then the table (`commanded`, and each command by its name).
 use Prim.Native.Nat.{ℕ, _+_, _-_}
 use mathlib.Core.Bool.{Bool, true, false, cond, not, _&&_, _||_}
 use mathlib.Core.List.{List}
 use lib.Dec.{leb, ltb, eqb}
 use lib.ListN.{length, getD}
 use Rattle.frames.specs.declared.Flags.{Flags}
+use Rattle.frames.specs.Flags.{selects, addresses, hasOption}
 use Rattle.frames.specs.Field.{fieldAt}
 use Rattle.card.specs.declared.Card.{Card}
 use Rattle.card.specs.declared.Mode.the-variants.{Ready, Quiet, Selected}
@@ -25,7 +28,7 @@ silent c = deed c Leave Silence
 abbrev pub fault : Card → ℕ → Deed
 fault c code = deed c Leave (Error code)
 
--- ---- the table: the request after its tests, command by command. at is the place of the body in the frame
+-- ---- the table: the request after its tests, command by command. "block outside 10" is looked for first, then "lock faults" 11 and 12
 
 -- "With Option on 21, 22, 27 to 2A the effect is at once and the answer, success or error 02, 10, 11 or 12, is held."
 unfoldable pub done : Bool → Card → Effect → Deed
@@ -39,11 +42,11 @@ failed false c code = fault c code
 unfoldable pub isLocked : List ℕ → ℕ → Bool
 isLocked locks block = not (eqb (getD locks block 0) 0)
 
--- 20: "block; Option puts its lock byte first"; 23: "n+1 blocks, each as 20"
+-- 20: "block; Option puts its lock byte first"; 23: "n+1 blocks, each as 20"; the last of them is to be inside, else "block outside 10"
 unfoldable pub reads : Card → Bool → ℕ → ℕ → Deed
 reads c option first n = cond (ltb (first + n) (c .blocks)) (deed c Leave (Blocks first (n + 1) option)) (fault c 0x10)
 
--- 21: "write; locked is 12"
+-- 21: "write; locked is 12". place is where the data begin in the frame
 unfoldable pub writes : Card → List ℕ → Bool → ℕ → ℕ → Deed
 writes c locks option block place =
     cond (ltb block (c .blocks)) (cond (isLocked locks block) (failed option c 0x12) (done option c (Write block place))) (failed option c 0x10)
@@ -71,6 +74,7 @@ locks-dsfid c option = cond (c .«dsfid_locked») (failed option c 0x11) (done o
 unfoldable pub tells-locks : Card → ℕ → ℕ → Deed
 tells-locks c first n = cond (ltb (first + n) (c .blocks)) (deed c Leave (Status first (n + 1))) (fault c 0x10)
 
+-- each command; 25 / 26: "mode Selected / Ready"; 2B: the answer is in crates/play. at is the place of the body in the frame
 unfoldable pub commanded : Card → List ℕ → Bool → List ℕ → ℕ → ℕ → Deed
 commanded c locks option frame at command =
     let first : ℕ = getD frame at 0 in
@@ -88,13 +92,13 @@ commanded c locks option frame at command =
     (cond (eqb command 0x2b) (deed c Leave Information)
     (tells-locks c first second)))))))))))
 
--- ---- step 6: "in this order, error answers"
+-- ---- step 6: "Then, in this order, error answers (01, code, check)"
 
--- "command not listed 01": the table has 20 to 2C without 24
+-- "command not listed 01": the table has 20 to 2C without 24; "custom and proprietary commands, Write multiple blocks (24) .. are not in the base"
 unfoldable pub isListed : ℕ → Bool
 isListed command = leb 0x20 command && (leb command 0x2c && not (eqb command 0x24))
 
--- "wrong body length 02": the table's column of bodies; data has the size of a block
+-- "wrong body length 02": the table's column of bodies: "block", "block, data", "first, n", "none" and "byte"; data has the size of a block
 unfoldable pub bodyAsked : ℕ → ℕ → ℕ
 bodyAsked command size =
     cond (eqb command 0x20 || (eqb command 0x22 || (eqb command 0x27 || eqb command 0x29))) 1
@@ -110,27 +114,31 @@ refusesOption command = eqb command 0x25 || (eqb command 0x26 || (eqb command 0x
 unfoldable pub holdsAnswer : ℕ → Bool
 holdsAnswer command = eqb command 0x21 || (eqb command 0x22 || (leb 0x27 command && leb command 0x2a))
 
+-- the bytes between the body's place and the check
 unfoldable pub bodyLength : List ℕ → ℕ → ℕ
 bodyLength frame at = length frame - (at + 2)
 
+-- the errors 01, 02 and 03 in this order, then what the command itself finds
 unfoldable pub judged : Card → List ℕ → Flags → List ℕ → ℕ → ℕ → Deed
 judged c locks f frame at command =
     cond (isListed command)
     (cond (eqb (bodyLength frame at) (bodyAsked command (c .size)))
-    (cond (f .b7 && refusesOption command) (fault c 0x03) (commanded c locks (f .b7) frame at command))
-    (failed (f .b7 && holdsAnswer command) c 0x02))
+    (cond (hasOption f && refusesOption command) (fault c 0x03) (commanded c locks (hasOption f) frame at command))
+    (failed (hasOption f && holdsAnswer command) c 0x02))
     (fault c 0x01)
 
--- ---- step 5: "02, addressed, no body: mode Quiet, silence. Any other 02, and an unaddressed 25: silence, no change."
+-- ---- step 5
 
+-- "02, addressed, no body: mode Quiet, silence. Any other 02 ..: silence, no change."
 unfoldable pub quieted : Card → Flags → List ℕ → ℕ → Deed
-quieted c f frame at = silent (cond (f .b6 && eqb (bodyLength frame at) 0) (inMode Quiet c) c)
+quieted c f frame at = silent (cond (addresses f && eqb (bodyLength frame at) 0) (inMode Quiet c) c)
 
+-- "Any other 02, and an unaddressed 25: silence, no change."
 unfoldable pub sorted : Card → List ℕ → Flags → List ℕ → ℕ → Deed
 sorted c locks f frame at =
     let command : ℕ = getD frame 1 0 in
     cond (eqb command 0x02) (quieted c f frame at)
-    (cond (eqb command 0x25 && not (f .b6)) (silent c)
+    (cond (eqb command 0x25 && not (addresses f)) (silent c)
     (judged c locks f frame at command))
 
 -- ---- step 4
@@ -149,8 +157,8 @@ addressed c locks f frame =
 -- "Select: only a Selected card goes on. Neither: Ready and Selected go on, Quiet is silent."
 unfoldable pub unaddressed : Card → List ℕ → Flags → List ℕ → Deed
 unaddressed c locks f frame =
-    cond (cond (f .b5) (isSelected (c .mode)) (not (isQuiet (c .mode)))) (sorted c locks f frame 2) (silent c)
+    cond (cond (selects f) (isSelected (c .mode)) (not (isQuiet (c .mode)))) (sorted c locks f frame 2) (silent c)
 
--- "Select and Address both set: silence."
+-- "b3=0: Select and Address both set: silence."
 unfoldable pub requested : Card → List ℕ → Flags → List ℕ → Deed
-requested c locks f frame = cond (f .b6) (cond (f .b5) (silent c) (addressed c locks f frame)) (unaddressed c locks f frame)
+requested c locks f frame = cond (addresses f) (cond (selects f) (silent c) (addressed c locks f frame)) (unaddressed c locks f frame)

@@ -1,10 +1,12 @@
+-- Steps of private functions: nothing here has to be held against the rules page.
 -- What a request comes to, said without the record: how the card's functions hand it on until the record is made.
-use mathlib.Core.Bool.{Bool, false, cond, not, _&&_, _||_}
+use mathlib.Core.Bool.{Bool, false, cond, not, _&&_}
 use mathlib.Core.List.{List}
 use Prim.Native.Nat.{ℕ, _+_}
 use lib.Dec.{ltb, eqb}
 use lib.ListN.{length, getD}
 use Rattle.frames.specs.declared.Flags.{Flags}
+use Rattle.frames.specs.Flags.{setsReserved, selects, addresses}
 use Rattle.frames.specs.Field.{fieldAt}
 use Rattle.frames.specs.Frame.{isSound}
 use Rattle.card.specs.declared.Card.{Card}
@@ -73,16 +75,16 @@ faultOf option command body size =
 unfoldable pub toWhom : Card → Flags → List ℕ → Address
 toWhom c f frame =
     cond (isSound frame)
-    (cond (f .b4 || f .b8) Nobody
-    (cond (f .b6)
-    (cond (f .b5) Nobody (cond (ltb (length frame) 12) Nobody (cond (eqb (fieldAt frame 2 8) (c .uid)) Own Another)))
-    (cond (cond (f .b5) (isSelected (c .mode)) (not (isQuiet (c .mode)))) Own Nobody)))
+    (cond (setsReserved f) Nobody
+    (cond (addresses f)
+    (cond (selects f) Nobody (cond (ltb (length frame) 12) Nobody (cond (eqb (fieldAt frame 2 8) (c .uid)) Own Another)))
+    (cond (cond (selects f) (isSelected (c .mode)) (not (isQuiet (c .mode)))) Own Nobody)))
     Nobody
 
 -- "Address: eight UID bytes follow the command": the body's place
 abbrev pub bodyPlace : Flags → ℕ
-bodyPlace f = cond (f .b6) 10 2
+bodyPlace f = cond (addresses f) 10 2
 
 -- what such a frame makes of a cleared card
 unfoldable pub heeded : Card → List ℕ → Flags → List ℕ → Deed
-heeded c locks f frame = cond (isSound frame) (cond (f .b4 || f .b8) (silent c) (requested c locks f frame)) (silent c)
+heeded c locks f frame = cond (isSound frame) (cond (setsReserved f) (silent c) (requested c locks f frame)) (silent c)

@@ -23,7 +23,8 @@ use Rattle.walk.specs.declared.Heard.{Heard}
 use Rattle.walk.specs.Hear.{judged, Hearing, hearing, Hears}
 use Rattle.row.specs.declared.Air.{Air}
 use Rattle.row.specs.declared.Desk.{Desk}
-use Rattle.row.specs.Row.{crowded, airWith, airKind, airBytes, noAnswer, bytesHeard, deskAfter}
+use Rattle.row.specs.Row.{crowded, airWith, airKind, airBytes, deskAfter}
+use Rattle.row.specs.Steps.{noAnswer, bytesHeard}
 
 -- a reply that is neither silence nor present, as the last arm of the match has it
 pub other-crowds : (air : Air) (c : Card) (r : Reply) → OneOf (1 ∷ 2 ∷ 4 ∷ 5 ∷ 6 ∷ []) (tagOf R°.the-type r) → crowded air ≡ airWith air c r

@@ -10,7 +10,7 @@ use borrow.Author.Tests.{leb-true, leb-false}
 use lib.Dec.{leb}
 use lib.ListN.{length, take, drop, drop-of-length-le}
 use lib.Seq.{take-all}
-use Rattle.row.specs.Row.{atMost}
+use Rattle.row.specs.Steps.{atMost}
 
 pub at-most-below : (most n m : ℕ) → m ≡ atMost most n → m ≤ most
 unfolding atMost

@@ -12,7 +12,8 @@ use Rattle.card.specs.declared.Card.{Card}
 use Rattle.walk.specs.declared.Walk.{Walk}
 use Rattle.row.specs.declared.Air.{Air}
 use Rattle.row.specs.declared.Listened.{Listened}
-use Rattle.row.specs.Row.{sentOf, turnOf, stillAir, rowAir, rowAfter, Listens}
+use Rattle.row.specs.Row.{sentOf, turnOf, stillAir, rowAir, rowAfter}
+use Rattle.row.specs.Steps.{Listens}
 
 pub record Partly (w : Walk) (ys : List Card) (i : ℕ) (row : List Card) (air : Air) : Type 0 where
   pub within : i ≤ length ys

@@ -8,7 +8,8 @@ use Rattle.card.specs.declared.Card.{Card}
 use Rattle.walk.specs.declared.Walk.{Walk}
 use Rattle.row.specs.declared.Air.{Air}
 use Rattle.row.specs.declared.Desk.{Desk}
-use Rattle.row.specs.Row.{atMost, turnOf, stillAir, rowAir, rowAfter, HearsRow, deskAfter}
+use Rattle.row.specs.Row.{turnOf, stillAir, rowAir, rowAfter, HearsRow, deskAfter}
+use Rattle.row.specs.Steps.{atMost}
 use Rattle.row.specs.Play.{slotAir, slotRow, slotted}
 use Rattle.row.proofs.AtMost.{take-most, drop-most}
 

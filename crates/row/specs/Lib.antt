@@ -1,3 +1,4 @@
 pub mod Row
 pub mod Play
 pub mod Meaning
+pub mod Steps

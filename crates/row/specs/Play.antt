@@ -21,7 +21,7 @@ noUids =
     ∷ 0 ∷ 0 ∷ 0 ∷ 0 ∷ 0 ∷ 0 ∷ 0 ∷ 0 ∷ 0 ∷ 0 ∷ 0 ∷ 0 ∷ 0 ∷ 0 ∷ 0 ∷ 0
     ∷ []
 
--- a fresh walk of no family: 256 is none
+-- "no family": a fresh walk of family 256, which is none
 unfoldable pub freshDesk : Desk
 freshDesk = record { walk = started 256; list = noUids }
 

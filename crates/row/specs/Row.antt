@@ -3,7 +3,7 @@ use Prim.Native.Nat.{ℕ, zero, suc}
 use mathlib.Core.Bool.{false, cond}
 use mathlib.Core.List.{List, [], _∷_}
 use mathlib.Core.Path.{_≡_}
-use lib.Dec.{leb, eqb}
+use lib.Dec.{eqb}
 use lib.ListN.{take}
 use Rattle.crc.specs.Check.{sealed}
 use Rattle.frames.specs.Field.{fieldBytes}
@@ -27,9 +27,8 @@ use Rattle.walk.specs.Ask.{asking}
 use Rattle.row.specs.declared.Air.{Air}
 use Rattle.row.specs.declared.Desk.{Desk}
 use Rattle.row.specs.declared.Sent.{Sent}
-use Rattle.row.specs.declared.Listened.{Listened}
 
--- "cards Ready": what else a card holds is free
+-- Bench: "cards Ready"; what else a card holds is free
 unfoldable pub cardOf : ℕ → Card
 cardOf uid =
     record {
@@ -70,10 +69,6 @@ turnBy s c = heardBy (s .send) (s .bytes) c
 unfoldable pub turnOf : Walk → Card → Turn
 turnOf w c = turnBy (sentOf w) c
 
--- of a row, or of the bytes sent, no more than there are
-unfoldable pub atMost : ℕ → ℕ → ℕ
-atMost most n = cond (leb n most) n most
-
 -- ---- what is in the air of a slot: how many answer, 2 for two or more, and the first one's DSFID and UID
 
 unfoldable pub stillAir : Air
@@ -102,11 +97,7 @@ unfoldable pub rowAfter : Walk → List Card → List Card
 rowAfter w [] = []
 rowAfter w (c ∷ cs) = turnOf w c .card ∷ rowAfter w cs
 
--- what `listen` and `listen_row` promise
-pub record Listens (s : Sent) (c : Card) (air : Air) (r : Listened) : Type 0 where
-  pub card : r .card ≡ turnBy s c .card
-  pub air-left : r .air ≡ airWith air (turnBy s c .card) (turnBy s c .reply)
-
+-- what `listen_row` promises
 pub record HearsRow (w : Walk) (row : List Card) (r : Air) (left : List Card) : Type 0 where
   pub air : r ≡ rowAir w stillAir row
   pub row-left : left ≡ rowAfter w row
@@ -118,13 +109,6 @@ airKind air = cond (eqb (air .answers) 0) kind.Silence (cond (eqb (air .answers)
 
 unfoldable pub airBytes : Air → List ℕ
 airBytes air = sealed (0x00 ∷ air .dsfid ∷ fieldBytes 8 (air .uid))
-
--- the bytes that are handed to the walk: where not just one card answers they are not looked at, and stay 0
-unfoldable pub noAnswer : List ℕ
-noAnswer = 0 ∷ 0 ∷ 0 ∷ 0 ∷ 0 ∷ 0 ∷ 0 ∷ 0 ∷ 0 ∷ 0 ∷ 0 ∷ 0 ∷ []
-
-unfoldable pub bytesHeard : Air → List ℕ
-bytesHeard air = cond (eqb (air .answers) 1) (airBytes air) noAnswer
 
 -- the walk with its list
 unfoldable pub deskAfter : Desk → Air → Desk

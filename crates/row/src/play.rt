@@ -2,7 +2,8 @@
 ghost use mathlib.Core.Path.{_≡_};
 ghost use Prim.Native.Nat.{ℕ, _≤_};
 ghost use lib.ListN.{take};
-ghost use Rattle.row.specs.Row.{atMost, airKind, bytesHeard, deskAfter, cardsOf};
+ghost use Rattle.row.specs.Row.{airKind, deskAfter, cardsOf};
+ghost use Rattle.row.specs.Steps.{atMost, bytesHeard};
 ghost use Rattle.row.specs.Play.{freshDesk, slotted, goesOn, ended};
 use crate::Air;
 use crate::Desk;

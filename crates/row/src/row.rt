@@ -2,7 +2,8 @@
 ghost use mathlib.Core.Path.{_≡_};
 ghost use lib.ListN.{take};
 ghost use Rattle.card.specs.Frame.{heardInventory};
-ghost use Rattle.row.specs.Row.{cardOf, sentOf, atMost, turnBy, crowded, airWith, Listens, HearsRow};
+ghost use Rattle.row.specs.Row.{cardOf, sentOf, turnBy, crowded, airWith, HearsRow};
+ghost use Rattle.row.specs.Steps.{atMost, Listens};
 use crate::Air;
 use crate::Listened;
 use crate::Sent;

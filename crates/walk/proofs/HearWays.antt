@@ -12,7 +12,8 @@ use Rattle.walk.specs.declared.Kind.{Kind}
 use Rattle.walk.specs.declared.Slot.{Slot}
 use Rattle.walk.specs.declared.Slot.the-variants.{Clashed, Clean}
 use Rattle.walk.specs.Record.{places, mostRounds, isRunning, isAccepted, ended, opened}
-use Rattle.walk.specs.Hear.{judged, endsAtOnce, noted, listNoted, turned, passed, walkAfter, listAfter, After, refusal, hearing, Hears}
+use Rattle.walk.specs.Hear.{judged, endsAtOnce, noted, listNoted, turned, passed, walkAfter, listAfter, refusal, hearing, Hears}
+use Rattle.walk.specs.Steps.{After}
 
 -- ---- a slot that ends nothing at once
 

@@ -27,7 +27,7 @@ requestBody w = requestHead w ++ maskLength (w .level) ∷ fieldBytes (maskBytes
 unfoldable pub request : Walk → List ℕ
 request w = sealed (requestBody w)
 
--- "Slots 0 to 15 are then heard, a slot mark before each but the first."; nothing after an ending
+-- "request, slot mark or nothing": "Slots 0 to 15 are then heard, a slot mark before each but the first."; nothing after an ending
 unfoldable pub sent : Walk → Send
 sent w = cond (isRunning w) (cond (eqb (w .slot) 0) (Request (length (request w))) Mark) Nothing
 
@@ -58,7 +58,7 @@ asking w room =
     let n : ℕ = refusal w (length room) in
     cond (eqb n 0) (record { room = roomAfter w (sent w) room; number = 0; send = sent w }) (record { room = room; number = n; send = Nothing })
 
--- what `ask` promises: the walk as it was, what is returned, and every byte of the room
+-- "may be asked often": what `ask` promises is the walk as it was, what is returned, and every byte of the room
 pub record Asks (w : Walk) (a : Asking) (r : Asked) (room : List ℕ) : Type 0 where
   pub walk : r .walk ≡ w
   pub number : r .number ≡ a .number

@@ -17,7 +17,7 @@ use Rattle.walk.specs.declared.Heard.{Heard}
 use Rattle.walk.specs.Marks.{deepest}
 use Rattle.walk.specs.Record.{places, mostRounds, maskLength, running, complete, twins, full, overrun, isRunning, isAccepted, ended, counted, marked, atNextSlot, opened}
 
--- ---- "Each is silent, a clash, or bytes."
+-- ---- what is heard in a slot
 
 -- the UID of an answer "00, DSFID, UID, check"
 unfoldable pub uidOf : List ℕ → ℕ
@@ -29,7 +29,7 @@ isClean w bytes =
     eqb (length bytes) 12
     && (isSealed bytes && (eqb (getD bytes 0 0) 0x00 && fitsSlot (uidOf bytes) (maskLength (w .level)) (w .mask) (w .slot)))
 
--- "all else is a clash"
+-- "Each is silent, a clash, or bytes."; of bytes that are not clean, "all else is a clash"
 unfoldable pub judged : Walk → Kind → List ℕ → Slot
 judged w Silence bytes = Silent
 judged w Clash bytes = Clashed
@@ -54,8 +54,8 @@ listNoted w Silent list = list
 listNoted w Clashed list = list
 listNoted w (Clean uid) list = set list (w .count) uid
 
--- "After slot 15 the walk opens the lowest unopened clash of the deepest level that has one"; "complete (no clash waits)", "overrun (round 482
--- would be needed)". The second argument is one more than that level, or 0 where no clash waits
+-- "After slot 15 the walk opens the lowest unopened clash of the deepest level that has one"; "complete (no clash waits)",
+-- "overrun (round 482 would be needed)". The second argument is one more than that level, or 0 where no clash waits
 unfoldable pub turned : Walk → ℕ → Walk
 turned w zero = ended complete w
 turned w (suc j) = cond (ltb (w .rounds) mostRounds) (opened w j) (ended overrun w)
@@ -63,21 +63,17 @@ turned w (suc j) = cond (ltb (w .rounds) mostRounds) (opened w j) (ended overrun
 unfoldable pub passed : Walk → Walk
 passed w = cond (ltb (w .slot) 15) (atNextSlot w) (turned w (deepest (w .marks)))
 
--- the walk and its list after a slot
+-- the walk and its list after a slot: "save that a clean UID in slot 15 of the last round is listed and a clash there is marked before complete
+-- or overrun", since a slot is noted before the walk turns; at twins and full it is not
 unfoldable pub walkAfter : Walk → Slot → Walk
 walkAfter w slot = cond (eqb (endsAtOnce w slot) running) (passed (noted w slot)) (ended (endsAtOnce w slot) w)
 
 unfoldable pub listAfter : Walk → Slot → List ℕ → List ℕ
 listAfter w slot list = cond (eqb (endsAtOnce w slot) running) (listNoted w slot list) list
 
--- what a slot leaves behind: the walk r, and the list left
-pub record After (walk : Walk) (list : List ℕ) (r : Walk) (left : List ℕ) : Type 0 where
-  pub walk-left : r ≡ walk
-  pub list-left : left ≡ list
-
 -- ---- the call
 
--- "hearing 10, 6, 5": the number of the refusal, or 0 where the call is served
+-- "hearing 10, 6, 5": 10 is the record, 6 "hearing after an ending", 5 "list of fewer than 64 places"; 0 where the call is served
 unfoldable pub refusal : Walk → ℕ → ℕ
 refusal w room = cond (isAccepted w) (cond (isRunning w) (cond (leb places room) 0 5) 6) 10
 

@@ -9,7 +9,7 @@ use lib.ListN.{getD}
 unfoldable pub levels : ℕ
 levels = 16
 
--- slot s waits: bit s of its level's number
+-- "which slots clashed and wait": slot s waits where bit s of its level's number is set
 unfoldable pub waits : ℕ → ℕ → Bool
 waits m s = eqb (m / 2 ^ s % 2) 1
 

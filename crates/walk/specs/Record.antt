@@ -7,7 +7,7 @@ use lib.ListN.{getD, set}
 use Rattle.walk.specs.declared.Walk.{Walk}
 use Rattle.walk.specs.Marks.{levels, withMark, withoutMark, lowest, deepest}
 
--- "a list of 64 UIDs"
+-- "A walk has .. a list of 64 UIDs"
 unfoldable pub places : ℕ
 places = 64
 
@@ -19,7 +19,7 @@ mostRounds = 481
 unfoldable pub maskLength : ℕ → ℕ
 maskLength level = 4 * level
 
--- ---- Endings: the values of the field ending. 0 is no ending, and what is none of these is overrun too
+-- ---- "Endings: complete .., twins .., full .., overrun": the values of the field ending. 0 is no ending, and what is none of these is overrun too
 
 abbrev pub running : ℕ
 running = 0
@@ -39,7 +39,7 @@ overrun = 4
 unfoldable pub isRunning : Walk → Bool
 isRunning w = eqb (w .ending) running
 
--- "a family (none, or an AFI byte)"
+-- "A walk has a family (none, or an AFI byte)": from 256 on it is none
 unfoldable pub hasFamily : Walk → Bool
 hasFamily w = ltb (w .family) 256
 
@@ -49,7 +49,7 @@ hasFamily w = ltb (w .family) 256
 unfoldable pub marksFit : List ℕ → ℕ → Bool
 marksFit marks level = leb (deepest marks) (level + 1) && ltb (deepest marks) levels
 
--- "level or slot over 15, list count over 64, rounds 0 or over 481, mask bits above its length (4 × level)"
+-- "walk record: level or slot over 15, list count over 64, rounds 0 or over 481, mask bits above its length (4 × level), a clash mark .."
 unfoldable pub isAccepted : Walk → Bool
 isAccepted w =
     ltb (w .level) levels
@@ -74,7 +74,7 @@ remade w mask marks rounds level slot count ending =
       ending = ending;
     }
 
--- "An ending changes only the ending itself"
+-- "An ending changes only the ending itself: level, mask, slot, marks, list and rounds stay as that slot found them"
 unfoldable pub ended : ℕ → Walk → Walk
 ended ending w = remade w (w .mask) (w .marks) (w .rounds) (w .level) (w .slot) (w .count) ending
 
@@ -103,10 +103,10 @@ openedAt w j s =
 unfoldable pub opened : Walk → ℕ → Walk
 opened w j = openedAt w j (lowest (getD (w .marks) j 0))
 
--- "a round count starting at 1", with no mask, no mark and an empty list
 unfoldable pub noMarks : List ℕ
 noMarks = 0 ∷ 0 ∷ 0 ∷ 0 ∷ 0 ∷ 0 ∷ 0 ∷ 0 ∷ 0 ∷ 0 ∷ 0 ∷ 0 ∷ 0 ∷ 0 ∷ 0 ∷ 0 ∷ []
 
+-- "a round count starting at 1", with no mask, no mark and an empty list
 unfoldable pub started : ℕ → Walk
 started family =
     record { mask = 0; marks = noMarks; rounds = 1; family = family; level = 0; slot = 0; count = 0; ending = running }

@@ -11,7 +11,8 @@ use Rattle.walk.specs.declared.Kind.{Kind}
 use Rattle.walk.specs.Hear.{hearing}
 use Rattle.walk.proofs.Walk as T
 use Rattle.walk.proofs.Walk.Laws as T′
-use Rattle.board.specs.Walked.{Tells, HearsInPlace}
+use Rattle.board.specs.Walked.{HearsInPlace}
+use Rattle.board.specs.Steps.{Tells}
 use Rattle.board.proofs.in_place.Told.Laws as R′
 use Rattle.board.proofs.in_place.hear_silence as callee
 use Rattle.board.proofs.in_place.ek_walk_hear_silence as here

@@ -4,7 +4,7 @@ use borrow.Author.Tests.{le-ltb, lt-ltb}
 use native.Mathlib.Omega.{arith}
 use lib.ListN.{List·getD-eq-default}
 use Prim.Native.Nat.{_+_}
-use Rattle.frames.specs.Field.{fieldByte}
+use Rattle.frames.specs.Steps.{fieldByte}
 use Rattle.frames.proofs.field_byte.Statement.{statement}
 use Rattle.frames.proofs.field_byte.Tie as tie
 

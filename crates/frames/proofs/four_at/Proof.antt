@@ -1,6 +1,6 @@
 -- `frames::four_at` meets its contract: four bytes, each by `field_byte`. Assumes nothing.
 use borrow.Author.Needs.{needs}
-use Rattle.frames.specs.Field.{fourAt}
+use Rattle.frames.specs.Steps.{fourAt}
 use Rattle.frames.proofs.four_at.Statement.{statement}
 use Rattle.frames.proofs.four_at.Tie as tie
 

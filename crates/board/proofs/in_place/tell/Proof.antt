@@ -3,7 +3,7 @@ use mathlib.Core.Path.{_∙_}
 use borrow.Author.Needs.{needs, sfits-of}
 use mir.Syntax.{w64}
 use mir.ValLaws.{toZ-ofZ}
-use Rattle.board.specs.Walked.{toldOf}
+use Rattle.board.specs.Steps.{toldOf}
 use Rattle.board.proofs.in_place.tell.Statement.{statement}
 use Rattle.board.proofs.in_place.tell.Tie as tie
 

@@ -2,7 +2,7 @@
 use borrow.Author.Needs.{needs}
 use mathlib.Core.Path.{refl}
 use borrow.Author.Tests.{ne-eqb}
-use Rattle.row.specs.Row.{noAnswer, bytesHeard}
+use Rattle.row.specs.Steps.{noAnswer, bytesHeard}
 use Rattle.row.proofs.Answer.{answer-sealed}
 use Rattle.row.proofs.play.answer_in.Statement.{statement}
 use Rattle.row.proofs.play.answer_in.Tie as tie

@@ -1,6 +1,6 @@
 -- `row::row::at_most` meets its contract: by the test. Assumes nothing.
 use borrow.Author.Tests.{le-leb, lt-leb}
-use Rattle.row.specs.Row.{atMost}
+use Rattle.row.specs.Steps.{atMost}
 use Rattle.row.proofs.row.at_most.Statement.{statement}
 use Rattle.row.proofs.row.at_most.Tie as tie
 

@@ -21,7 +21,7 @@ use denote.Steps.{owned, nothing}
 use denote.Triple.Spec.{tripleOf}
 use denote.Triple.Statement.{Contract}
 use denote.Triple.Clauses.{ensured, lasts}
-use Rattle.row.specs.Row.{atMost}
+use Rattle.row.specs.Steps.{atMost}
 use Rattle.row.proofs.row.at_most as at-most
 
 module _ {M : Type 1} (𝓤 : URA M) (H : Heap 𝓤) (A : Atoms 𝓤) (mem′ : Memory → SProp 𝓤) (run : Routine → Fun 𝓤) where

@@ -14,7 +14,7 @@ use denote.Struct.Laws as LL
 use Rattle.card.specs.declared.Card.{Card}
 use Rattle.row.specs.declared.Air.{Air}
 use Rattle.row.specs.declared.Desk.{Desk}
-use Rattle.row.specs.Row.{atMost}
+use Rattle.row.specs.Steps.{atMost}
 use Rattle.card.proofs.Card as C°
 use Rattle.row.proofs.Air as A°
 use Rattle.row.proofs.Air.Laws as A′

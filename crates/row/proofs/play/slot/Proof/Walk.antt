@@ -42,7 +42,8 @@ use Rattle.card.specs.declared.Card.{Card}
 use Rattle.row.specs.declared.Air.{Air}
 use Rattle.row.specs.declared.Desk.{Desk}
 use Rattle.row.specs.declared.Slotted.{Slotted}
-use Rattle.row.specs.Row.{atMost, HearsRow, deskAfter}
+use Rattle.row.specs.Row.{HearsRow, deskAfter}
+use Rattle.row.specs.Steps.{atMost}
 use Rattle.row.specs.Play.{slotted}
 use Rattle.card.proofs.Card as C°
 use Rattle.card.proofs.Card.Laws as C′
