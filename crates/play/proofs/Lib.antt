@@ -12,4 +12,7 @@ pub mod Turns
 pub mod ReadyFor
 pub mod EventWays
 pub mod Unique
+pub mod ExampleReads
+pub mod ExampleRequests
+pub mod ExampleSlots
 pub mod Examples

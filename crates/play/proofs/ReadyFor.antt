@@ -48,7 +48,7 @@ built c memory locks room p q r =
       fits = r;
     }
 
-ready-of : (c : Card) (memory : ℕ) (locks : List ℕ) (room : ℕ) → refusal c memory locks room ≡ 0 → Ready c memory (length locks) room
+pub ready-of : (c : Card) (memory : ℕ) (locks : List ℕ) (room : ℕ) → refusal c memory locks room ≡ 0 → Ready c memory (length locks) room
 unfolding refusal
 ready-of c memory locks room e = go (isAccepted c) (lengthsFit c memory (length locks)) (locksFit locks) (roomFits c room) refl refl refl e
   where

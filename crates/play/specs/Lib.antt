@@ -3,3 +3,4 @@ pub mod Answer
 pub mod Effects
 pub mod Fits
 pub mod Events
+pub mod Examples

@@ -2,4 +2,3 @@ pub mod Verdicts
 pub mod Modes
 pub mod Rules
 pub mod Unique
-pub mod Examples
