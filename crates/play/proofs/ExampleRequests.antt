@@ -1,12 +1,11 @@
 -- An inventory request with sixteen slots and no AFI, on the call for a frame: it starts a sequence, or the card is silent. By the tests of
 -- the definitions, with the check as it was appended. Assumes nothing.
 use mathlib.Core.Path.{_≡_, refl, sym, ap, _∙_}
-use mathlib.Core.Bool.{Bool, true, false, cond, not, _&&_}
+use mathlib.Core.Bool.{Bool, true, false, _&&_}
 use mathlib.Core.List.{List, [], _∷_, _++_}
 use Prim.Native.Nat.{ℕ, suc, _+_, _%_, _^_, _≤_, _<_, zero, min}
 use native.Mathlib.Omega.{arith}
 use borrow.Author.Tests.{eq-eqb, le-leb, lt-leb}
-use lib.Dec.{leb}
 use lib.ListN.{length, take, getD, length-append}
 use lib.Seq.{take-at}
 use Rattle.crc.specs.Check.{sealed, checkBytes}
@@ -16,7 +15,6 @@ use Rattle.frames.specs.Field.{fieldOf, fieldAt}
 use Rattle.frames.proofs.Sound.{sound-of-sealed}
 use Rattle.slots.specs.Fits.{maskBytes, fitsSlot}
 use Rattle.card.specs.declared.Card.{Card}
-use Rattle.card.specs.declared.Reply.{Reply}
 use Rattle.card.specs.declared.Reply.the-variants.{Silence}
 use Rattle.card.specs.declared.Turn.{Turn}
 use Rattle.card.specs.declared.Sequence.the-variants.{Running}
@@ -27,12 +25,10 @@ use Rattle.requests.specs.declared.Effect.the-variants.{Leave}
 use Rattle.requests.specs.Frame.{decided}
 use Rattle.requests.specs.Request.{deed, silent}
 use Rattle.requests.proofs.Rules.{inventory-frame}
-use Rattle.play.specs.Refusal.{refusal}
 use Rattle.play.specs.Answer.{replyBytes}
 use Rattle.play.specs.Effects.{memoryAfter, locksAfter}
 use Rattle.play.specs.Events.{lengthTold, answered, Outcome, replied, event, carriedOut, frameEvent}
 use Rattle.play.specs.Examples.{silence, inSlot, inventory}
-use Rattle.play.proofs.EventWays.{event-served}
 
 -- eight bytes of mask at most
 module _ (n : ℕ) (mask : List ℕ) (k : length mask ≡ maskBytes n) (few : length mask ≤ 8) where
@@ -90,14 +86,8 @@ module _ (c : Card) (memory locks found : List ℕ) where
       frame-turned _ (is-inventory (0xbc ∷ 0xfa ∷ [])) ∙ ap turned (padding-heard c) ∙ sym (frame-turned _ (is-inventory (0xbc ∷ 0x0a ∷ [])))
   padding-same (suc s) = rw (padding-same s)
 
--- ---- the calls
+-- ---- silence on the call
 
-module _ (c : Card) (memory locks found : List ℕ) (served : refusal c (length memory) locks (length found) ≡ 0) where
-  pub frame-served : (frame : List ℕ) (next : Card) (reply : Reply) → decided c locks frame ≡ deed next Leave reply
-      → frameEvent c frame memory locks found ≡ replied next memory locks reply found
-  unfolding frameEvent carriedOut memoryAfter locksAfter
-  frame-served frame next reply d = event-served c memory locks found _ _ refl served ∙ rw d
-
-  pub silence-served : (next : Card) → replied next memory locks Silence found ≡ silence next memory locks found
-  unfolding replied replyBytes lengthTold answered silence
-  silence-served next = refl
+pub silence-served : (c : Card) (memory locks found : List ℕ) → replied c memory locks Silence found ≡ silence c memory locks found
+unfolding replied replyBytes lengthTold answered silence
+silence-served c memory locks found = refl

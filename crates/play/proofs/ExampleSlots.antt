@@ -28,8 +28,8 @@ use Rattle.play.specs.Answer.{presence, replyBytes}
 use Rattle.play.specs.Events.{lengthTold, answered, Outcome, replied, frameEvent, markEvent}
 use Rattle.play.specs.Examples.{inSlot, inventory}
 use Rattle.play.proofs.Answers.{length-presence}
-use Rattle.play.proofs.EventWays.{event-served}
-use Rattle.play.proofs.ExampleRequests.{inventory-taken, frame-served}
+use Rattle.play.proofs.EventWays.{event-served, frame-served}
+use Rattle.play.proofs.ExampleRequests.{inventory-taken}
 use Rattle.play.proofs.ReadyFor.{ready-of}
 use Rattle.play.proofs.Room.{room-of}
 
@@ -47,7 +47,8 @@ module _ (c : Card) (memory locks : List ℕ) where
   unfolding refusal isAccepted sequenceFits heldFits lengthsFit roomFits inSequence cleared remade
   still-served room s h e =
       rw (le-leb s 15 h)
-      (go (shapeFits (c .blocks) (c .size)) (sequenceFits (c .sequence)) (heldFits (c .held)) (lengthsFit c (length memory) (length locks)) (locksFit locks) (roomFits c room) e)
+      (go (shapeFits (c .blocks) (c .size)) (sequenceFits (c .sequence)) (heldFits (c .held)) (lengthsFit c (length memory) (length locks))
+      (locksFit locks) (roomFits c room) e)
     where
       go : (shape sequence held lengths bytes room : Bool)
           → _≡_ {A = ℕ} (cond (shape && (sequence && held)) (cond lengths (cond bytes (cond room 0 4) 3) 2) 1) 0
@@ -131,7 +132,7 @@ module _ (c : Card) (memory locks : List ℕ) where
       first-slot : isQuiet (c .mode) ≡ false → frameEvent c request memory locks found ≡ slot 0
       unfolding maskBytes fieldOf
       first-slot heard =
-          frame-served c memory locks found served request (stands 0) (present (fitsSlot (c .uid) 0x0c 0xabc 0))
+          frame-served c memory locks found request served (stands 0) (present (fitsSlot (c .uid) 0x0c 0xabc 0))
           (inventory-taken 0x0c (0xbc ∷ 0x0a ∷ []) refl (omega arith) c locks heard (omega arith))
           ∙ rw (fits-5 0, turn-told false 0 found)
 
