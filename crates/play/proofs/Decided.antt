@@ -60,11 +60,11 @@ module _ (card : Card) (frame : List ℕ) where
         → DeedFits card frame (commanded c locks option frame at command)
     unfolding commanded
     commanded-fits locks option at command data-there =
-        by-test card frame (eqb command 0x20) _ _ (λ e. reads-fits card frame c same option (getD frame at 0) 0) (λ e.
+        by-test card frame (eqb command 0x20) _ _ (λ e. reads-fits card frame c same option _ _) (λ e.
         by-test card frame (eqb command 0x21) _ _
         (λ e. writes-fits card frame c same locks option (getD frame at 0) (at + 1) (data-there (eqb-true command 0x21 e))) (λ e.
         by-test card frame (eqb command 0x22) _ _ (λ e. locks-fits card frame c same locks option (getD frame at 0)) (λ e.
-        by-test card frame (eqb command 0x23) _ _ (λ e. reads-fits card frame c same option (getD frame at 0) (getD frame (at + 1) 0)) (λ e.
+        by-test card frame (eqb command 0x23) _ _ (λ e. reads-fits card frame c same option _ _) (λ e.
         by-test card frame (eqb command 0x25) _ _ (λ e. done-at-once Selected) (λ e.
         by-test card frame (eqb command 0x26) _ _ (λ e. done-at-once Ready) (λ e.
         by-test card frame (eqb command 0x27) _ _ (λ e. afi-fits option (getD frame at 0)) (λ e.
@@ -72,7 +72,7 @@ module _ (card : Card) (frame : List ℕ) where
         by-test card frame (eqb command 0x29) _ _ (λ e. dsfid-fits option (getD frame at 0)) (λ e.
         by-test card frame (eqb command 0x2a) _ _ (λ e. lock-dsfid-fits option) (λ e.
         by-test card frame (eqb command 0x2b) _ _ (λ e. information-fits) (λ e.
-        tells-fits card frame c same (getD frame at 0) (getD frame (at + 1) 0))))))))))))
+        tells-fits card frame c same _ _)))))))))))
 
     asked-21 : (command : ℕ) → command ≡ 0x21 → bodyAsked command (c .size) ≡ 1 + c .size
     unfolding bodyAsked

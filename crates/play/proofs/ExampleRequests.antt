@@ -25,10 +25,11 @@ use Rattle.requests.specs.declared.Effect.the-variants.{Leave}
 use Rattle.requests.specs.Frame.{decided}
 use Rattle.requests.specs.Request.{deed, silent}
 use Rattle.requests.proofs.Rules.{inventory-frame}
-use Rattle.play.specs.Answer.{replyBytes}
+use Rattle.play.specs.Answer.{presence, replyBytes}
 use Rattle.play.specs.Effects.{memoryAfter, locksAfter}
 use Rattle.play.specs.Events.{lengthTold, answered, Outcome, replied, event, carriedOut, frameEvent}
-use Rattle.play.specs.Examples.{silence, inSlot, inventory}
+use Rattle.play.proofs.Answers.{length-presence}
+use Rattle.play.specs.Examples.{silence, speech, presents, inSlot, inventory}
 
 -- eight bytes of mask at most
 module _ (n : ℕ) (mask : List ℕ) (k : length mask ≡ maskBytes n) (few : length mask ≤ 8) where
@@ -86,8 +87,13 @@ module _ (c : Card) (memory locks found : List ℕ) where
       frame-turned _ (is-inventory (0xbc ∷ 0xfa ∷ [])) ∙ ap turned (padding-heard c) ∙ sym (frame-turned _ (is-inventory (0xbc ∷ 0x0a ∷ [])))
   padding-same (suc s) = rw (padding-same s)
 
--- ---- silence on the call
+-- ---- the answers on the calls
 
 pub silence-served : (c : Card) (memory locks found : List ℕ) → replied c memory locks Silence found ≡ silence c memory locks found
 unfolding replied replyBytes lengthTold answered silence
 silence-served c memory locks found = refl
+
+pub presents-served : (c : Card) (memory locks found : List ℕ) (b : Bool) → replied c memory locks (present b) found ≡ presents b c memory locks found
+unfolding replied replyBytes present presence lengthTold answered presents speech silence
+presents-served c memory locks found true = rw (length-presence c)
+presents-served c memory locks found false = refl

@@ -3,11 +3,11 @@
 use mathlib.Core.Path.{_≡_, refl, sym, ap, _∙_}
 use mathlib.Core.Bool.{Bool, true, false, cond, _&&_}
 use mathlib.Core.List.{List, [], _∷_}
-use Prim.Native.Nat.{ℕ, zero, suc, _+_, _*_, _/_, _%_, _^_, _≤_, _<_}
+use Prim.Native.Nat.{ℕ, zero, suc, _/_, _%_, _^_, _≤_, _<_}
 use native.Mathlib.Decide.{ℕ-discrete}
 use native.Mathlib.Numerals.{add-one}
 use native.Mathlib.Omega.{arith}
-use borrow.Author.Tests.{eq-eqb, ne-eqb, lt-ltb, le-ltb, le-leb}
+use borrow.Author.Tests.{eq-eqb, ne-eqb, lt-ltb, le-leb}
 use lib.Dec.{ltb, eqb}
 use lib.ListN.{length}
 use lib.Pow.{mod-mod-pow, field}
@@ -24,12 +24,10 @@ use Rattle.card.specs.Record.{isQuiet, shapeFits, sequenceFits, heldFits, isAcc
 use Rattle.card.specs.Inventory.{present}
 use Rattle.card.specs.Mark.{marked, released, moved}
 use Rattle.play.specs.Refusal.{lengthsFit, locksFit, roomFits, refusal}
-use Rattle.play.specs.Answer.{presence, replyBytes}
-use Rattle.play.specs.Events.{lengthTold, answered, Outcome, replied, frameEvent, markEvent}
-use Rattle.play.specs.Examples.{inSlot, inventory}
-use Rattle.play.proofs.Answers.{length-presence}
+use Rattle.play.specs.Events.{Outcome, frameEvent, markEvent}
+use Rattle.play.specs.Examples.{silence, speech, presents, inSlot, inventory}
 use Rattle.play.proofs.EventWays.{event-served, frame-served}
-use Rattle.play.proofs.ExampleRequests.{inventory-taken}
+use Rattle.play.proofs.ExampleRequests.{inventory-taken, presents-served}
 use Rattle.play.proofs.ReadyFor.{ready-of}
 use Rattle.play.proofs.Room.{room-of}
 
@@ -58,16 +56,19 @@ module _ (c : Card) (memory locks : List ℕ) where
       go true false held lengths bytes room e = absurd (omega arith)
       go false sequence held lengths bytes room e = absurd (omega arith)
 
-  -- the inventory answer, or silence
+  -- the inventory answer
   abbrev says : List ℕ
   says = sealed (0x00 ∷ c .dsfid ∷ fieldBytes 8 (c .uid))
 
-  turn-told : (b : Bool) (s : ℕ) (found : List ℕ)
-      → replied (stands s) memory locks (present b) found
-      ≡ record { card = stands s; memory = memory; locks = locks; answer = cond b (over says found) found; number = 0; told = cond b 12 0 }
-  unfolding replied replyBytes present presence lengthTold answered inSequence cleared remade
-  turn-told true s found = rw (length-presence c)
-  turn-told false s found = refl
+  -- what a slot leaves
+  abbrev left : Bool → ℕ → List ℕ → Outcome
+  left b s found =
+      record { card = stands s; memory = memory; locks = locks; answer = cond b (over says found) found; number = 0; told = cond b 12 0 }
+
+  presents-left : (b : Bool) (s : ℕ) (found : List ℕ) → presents b (stands s) memory locks found ≡ left b s found
+  unfolding presents speech silence inSequence cleared remade
+  presents-left true s found = refl
+  presents-left false s found = refl
 
   module _ (is : c .uid % 2 ^ 16 ≡ 0x5abc) where
     fits-5 : (s : ℕ) → fitsSlot (c .uid) 0x0c 0xabc s ≡ eqb s 5
@@ -87,23 +88,24 @@ module _ (c : Card) (memory locks : List ℕ) where
     mark-turned s h = rw (lt-ltb s 15 h, add-one, ← (fits-5 (suc s)))
 
     module _ (found : List ℕ) (served : refusal c (length memory) locks (length found) ≡ 0) where
-      -- the room in slot s: the answer stands in it from slot 5 on
+      -- the room as slot s finds it: the answer stands in it after slot 5
       abbrev room : ℕ → List ℕ
-      room s = cond (ltb s 5) found (over says found)
+      room s = cond (ltb 5 s) (over says found) found
 
-      late : (s : ℕ) → 5 ≤ s → cond (eqb (suc s) 5) (over says (room s)) (room s) ≡ room (suc s)
-      late s h = rw (ne-eqb (suc s) 5 (omega arith), le-ltb s 5 (omega arith), le-ltb (suc s) 5 (omega arith))
+      late : (s : ℕ) → 6 ≤ s → cond (eqb s 5) (over says (room s)) (room s) ≡ room (suc s)
+      late s h = rw (ne-eqb s 5 (omega arith), lt-ltb 5 s (omega arith), lt-ltb 5 (suc s) (omega arith))
 
-      next-room : (s : ℕ) → cond (eqb (suc s) 5) (over says (room s)) (room s) ≡ room (suc s)
+      next-room : (s : ℕ) → cond (eqb s 5) (over says (room s)) (room s) ≡ room (suc s)
       next-room zero = refl
       next-room (suc zero) = refl
       next-room (suc (suc zero)) = refl
       next-room (suc (suc (suc zero))) = refl
       next-room (suc (suc (suc (suc zero)))) = refl
-      next-room (suc (suc (suc (suc (suc s))))) = late (suc (suc (suc (suc (suc s))))) (omega arith)
+      next-room (suc (suc (suc (suc (suc zero))))) = refl
+      next-room (suc (suc (suc (suc (suc (suc s)))))) = late (suc (suc (suc (suc (suc (suc s)))))) (omega arith)
 
       room-length : (s : ℕ) → length (room s) ≡ length found
-      room-length s = go (ltb s 5)
+      room-length s = go (ltb 5 s)
         where
           long : length (over says found) ≡ length found
           long =
@@ -115,18 +117,20 @@ module _ (c : Card) (memory locks : List ℕ) where
                 room-of c (length found) (ready-of c (length memory) locks (length found) served .fits) .least,
               ))
 
-          go : (b : Bool) → length (cond b found (over says found)) ≡ length found
-          go true = refl
-          go false = long
+          go : (b : Bool) → length (cond b (over says found) found) ≡ length found
+          go true = long
+          go false = refl
 
       abbrev slot : ℕ → Outcome
-      slot s = record { card = stands s; memory = memory; locks = locks; answer = room s; number = 0; told = cond (eqb s 5) 12 0 }
+      slot s = presents (eqb s 5) (stands s) memory locks (room s)
 
-      next-slot : (s : ℕ) → s < 15 → markEvent (stands s) memory locks (room s) ≡ slot (suc s)
+      -- a mark on what slot s left
+      next-slot : (s : ℕ) → s < 15 → markEvent (stands s) memory locks (room (suc s)) ≡ slot (suc s)
       unfolding markEvent
       next-slot s h =
-          event-served (stands s) memory locks (room s) _ _ refl (rw (room-length s) (still-served (length found) s (omega arith) served))
-          ∙ rw (mark-turned s h, turn-told (eqb (suc s) 5) (suc s) (room s), next-room s)
+          event-served (stands s) memory locks (room (suc s)) _ _ refl
+          (rw (room-length (suc s)) (still-served (length found) s (omega arith) served))
+          ∙ rw (mark-turned s h) (presents-served (stands (suc s)) memory locks (room (suc s)) (eqb (suc s) 5))
 
       -- the request opens slot 0
       first-slot : isQuiet (c .mode) ≡ false → frameEvent c request memory locks found ≡ slot 0
@@ -134,9 +138,10 @@ module _ (c : Card) (memory locks : List ℕ) where
       first-slot heard =
           frame-served c memory locks found request served (stands 0) (present (fitsSlot (c .uid) 0x0c 0xabc 0))
           (inventory-taken 0x0c (0xbc ∷ 0x0a ∷ []) refl (omega arith) c locks heard (omega arith))
-          ∙ rw (fits-5 0, turn-told false 0 found)
+          ∙ rw (fits-5 0) (presents-served (stands 0) memory locks found false)
 
       pub slots-heard : isQuiet (c .mode) ≡ false → (s : ℕ) → s ≤ 15 → inSlot c request memory locks found s ≡ slot s
       unfolding inSlot
       slots-heard heard zero h = first-slot heard
-      slots-heard heard (suc s) h = rw (slots-heard heard s (omega arith)) (next-slot s (omega arith))
+      slots-heard heard (suc s) h =
+          rw (slots-heard heard s (omega arith), presents-left (eqb s 5) s (room s), next-room s) (next-slot s (omega arith))

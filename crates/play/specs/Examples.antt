@@ -1,6 +1,6 @@
 -- 01, Examples: those of the card, on its calls. Each frame has its check.
 use Prim.Native.Nat.{ℕ, zero, suc, _%_, _^_, _≤_}
-use mathlib.Core.Bool.{false, cond}
+use mathlib.Core.Bool.{Bool, false, cond}
 use mathlib.Core.List.{List, [], _∷_, _++_}
 use mathlib.Core.Path.{_≡_}
 use lib.Dec.{ltb, eqb}
@@ -28,6 +28,11 @@ unfoldable pub speech : Card → List ℕ → List ℕ → List ℕ → ℕ → 
 speech c memory locks found n bytes =
     record { card = c; memory = memory; locks = locks; answer = over (sealed bytes) found; number = 0; told = n }
 
+-- "Answer: 00, DSFID, UID, check.", where the test holds; else silence
+unfoldable pub presents : Bool → Card → List ℕ → List ℕ → List ℕ → Outcome
+presents test c memory locks found =
+    cond test (speech c memory locks found 12 (0x00 ∷ c .dsfid ∷ fieldBytes 8 (c .uid))) (silence c memory locks found)
+
 -- what the calls leave in slot s of an inventory request: the frame is slot 0, and each later slot a mark on what the one before it left
 unfoldable pub inSlot : Card → List ℕ → List ℕ → List ℕ → List ℕ → ℕ → Outcome
 inSlot c frame memory locks found zero = frameEvent c frame memory locks found
@@ -40,23 +45,18 @@ abbrev pub inventory : ℕ → List ℕ → List ℕ
 inventory n mask = sealed (0x06 ∷ 0x01 ∷ n ∷ mask)
 
 pub record CardExamples : Type 0 where
-  -- "mask length 0C, bytes BC 0A, fits low bits 5ABC in slot 5 only": in slot 5 the answer is given, and it stands in the room from then on
+  -- "mask length 0C, bytes BC 0A, fits low bits 5ABC in slot 5 only": later slots find the answer of slot 5 in the room
   pub slot-5-only : (c : Card) (memory locks found : List ℕ) → Listens c memory locks found → c .uid % 2 ^ 16 ≡ 0x5abc → (s : ℕ) → s ≤ 15
       → inSlot c (inventory 0x0c (0xbc ∷ 0x0a ∷ [])) memory locks found s
-      ≡ record {
-        card = inSequence (Running s 0x0c 0xabc) (cleared c);
-        memory = memory;
-        locks = locks;
-        answer = cond (ltb s 5) found (over (sealed (0x00 ∷ c .dsfid ∷ fieldBytes 8 (c .uid))) found);
-        number = 0;
-        told = cond (eqb s 5) 12 0;
-      }
+      ≡ presents (eqb s 5) (inSequence (Running s 0x0c 0xabc) (cleared c)) memory locks
+      (cond (ltb 5 s) (over (sealed (0x00 ∷ c .dsfid ∷ fieldBytes 8 (c .uid))) found) found)
   -- "BC FA means the same": in every slot, for every card
   pub padding-ignored : (c : Card) (memory locks found : List ℕ) (s : ℕ)
       → inSlot c (inventory 0x0c (0xbc ∷ 0xfa ∷ [])) memory locks found s ≡ inSlot c (inventory 0x0c (0xbc ∷ 0x0a ∷ [])) memory locks found s
-  -- "mask length 3C accepted with sixteen slots": a sequence starts, with the mask's low 60 bits
+  -- "mask length 3C accepted with sixteen slots": a sequence starts with the mask's low 60 bits, which the card's 64 are in slot 0
   pub length-3c : (c : Card) (memory locks found : List ℕ) → Listens c memory locks found → (mask : List ℕ) → length mask ≡ 8
-      → frameEvent c (inventory 0x3c mask) memory locks found .card ≡ inSequence (Running 0 0x3c (fieldOf mask % 2 ^ 60)) (cleared c)
+      → frameEvent c (inventory 0x3c mask) memory locks found
+      ≡ presents (eqb (c .uid % 2 ^ 64) (fieldOf mask % 2 ^ 60)) (inSequence (Running 0 0x3c (fieldOf mask % 2 ^ 60)) (cleared c)) memory locks found
   -- "3D silent"
   pub length-3d : (c : Card) (memory locks found : List ℕ) → Listens c memory locks found → (mask : List ℕ) → length mask ≡ 8
       → frameEvent c (inventory 0x3d mask) memory locks found ≡ silence (cleared c) memory locks found
