@@ -80,25 +80,25 @@ impl Card {
     pub fn in_mode(self, mode: Mode) -> Card
         ensures { λ r. ⌜ r ≡ inMode mode self ⌝ }
     {
-        let sequence = self.sequence;
-        let held = self.held;
-        self.in_state(mode, sequence, held)
+        let running = self.sequence;
+        let waiting = self.held;
+        self.in_state(mode, running, waiting)
     }
 
     pub(crate) fn in_sequence(self, sequence: Sequence) -> Card
         ensures { λ r. ⌜ r ≡ inSequence sequence self ⌝ }
     {
-        let mode = self.mode;
-        let held = self.held;
-        self.in_state(mode, sequence, held)
+        let kept = self.mode;
+        let waiting = self.held;
+        self.in_state(kept, sequence, waiting)
     }
 
     pub fn holding(self, held: Held) -> Card
         ensures { λ r. ⌜ r ≡ holding held self ⌝ }
     {
-        let mode = self.mode;
-        let sequence = self.sequence;
-        self.in_state(mode, sequence, held)
+        let kept = self.mode;
+        let running = self.sequence;
+        self.in_state(kept, running, held)
     }
 
     // AFI and DSFID, each with its lock.

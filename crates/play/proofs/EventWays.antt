@@ -19,6 +19,9 @@ use Rattle.requests.specs.declared.Deed.{Deed}
 use Rattle.card.specs.declared.Turn.{Turn}
 use Rattle.card.specs.Record.{poweredOff}
 use Rattle.card.specs.Mark.{marked}
+use Rattle.requests.specs.declared.Effect.the-variants.{Leave}
+use Rattle.requests.specs.Request.{deed}
+use Rattle.requests.specs.Frame.{decided}
 use Rattle.play.proofs.Brief.{brief-bytes}
 use Rattle.play.proofs.Room.{silence-length}
 use Rattle.play.specs.declared.Served.{Served}
@@ -26,7 +29,7 @@ use Rattle.play.specs.Effects.{memoryAfter, locksAfter}
 use Rattle.play.specs.Refusal.{refusal}
 use Rattle.play.specs.Steps.{isBrief, Finishes}
 use Rattle.play.specs.Answer.{replyBytes}
-use Rattle.play.specs.Events.{lengthTold, answered, Outcome, replied, unserved, event, carriedOut, Leaves}
+use Rattle.play.specs.Events.{lengthTold, answered, Outcome, replied, unserved, event, carriedOut, frameEvent, Leaves}
 
 module _ (c : Card) (memory locks found : List ℕ) (served : Outcome) where
   pub event-refused : (n : ℕ) → n ≡ refusal c (length memory) locks (length found) → (n ≡ 0 → ⊥)
@@ -37,6 +40,13 @@ module _ (c : Card) (memory locks found : List ℕ) (served : Outcome) where
   pub event-served : (n : ℕ) → n ≡ refusal c (length memory) locks (length found) → n ≡ 0 → event c memory locks found served ≡ served
   unfolding event
   event-served n e h = rw (← e, eq-eqb n 0 h)
+
+-- a frame whose deed leaves memory and locks
+pub frame-served : (c : Card) (memory locks found frame : List ℕ) → refusal c (length memory) locks (length found) ≡ 0
+    → (next : Card) (reply : Reply) → decided c locks frame ≡ deed next Leave reply
+    → frameEvent c frame memory locks found ≡ replied next memory locks reply found
+unfolding frameEvent carriedOut memoryAfter locksAfter
+frame-served c memory locks found frame served next reply d = event-served c memory locks found _ _ refl served ∙ rw d
 
 module _ (body found : List ℕ) where
   pub told-silence : length body ≡ 0 → 0 ≡ lengthTold body

@@ -16,4 +16,7 @@ pub mod Outcomes
 pub mod EventKeeps
 pub mod Stays
 pub mod Unique
+pub mod ExampleReads
+pub mod ExampleRequests
+pub mod ExampleSlots
 pub mod Examples

@@ -28,7 +28,7 @@ use Rattle.play.proofs.Refusals.{Passes, passes-of}
 use Rattle.play.proofs.Turns.{marked-brief}
 use Rattle.play.proofs.Deeds.{decided-fits}
 
-ready-of : (c : Card) (memory : ℕ) (locks : List ℕ) (room : ℕ) → refusal c memory locks room ≡ 0 → Ready c memory (length locks) room
+pub ready-of : (c : Card) (memory : ℕ) (locks : List ℕ) (room : ℕ) → refusal c memory locks room ≡ 0 → Ready c memory (length locks) room
 unfolding lengthsFit
 ready-of c memory locks room e =
     let p : Passes c memory locks room = passes-of c memory locks room e in

@@ -4,3 +4,4 @@ pub mod Effects
 pub mod Fits
 pub mod Events
 pub mod Steps
+pub mod Examples

@@ -104,8 +104,9 @@ pub fn power_off(card: Card, memory: &[u8], locks: &[u8], answer: &[u8]) -> Serv
             length: 0,
         };
     }
+    let off = card.power_off();
     Served {
-        card: card.power_off(),
+        card: off,
         number: 0,
         length: 0,
     }

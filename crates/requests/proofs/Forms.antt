@@ -52,10 +52,10 @@ module _ (P : Deed → Type 0) where
     by-command : (option : Bool) (at command : ℕ) → (command ≡ 0x21 → at + 1 + c .size ≤ length frame) → P (commanded c locks option frame at command)
     unfolding commanded
     by-command option at command data-there =
-        by-test (eqb command 0x20) _ _ (λ e. h .reading option (getD frame at 0) 0) (λ e.
+        by-test (eqb command 0x20) _ _ (λ e. h .reading option _ _) (λ e.
         by-test (eqb command 0x21) _ _ (λ e. h .writing option (getD frame at 0) (at + 1) (data-there (eqb-true command 0x21 e))) (λ e.
         by-test (eqb command 0x22) _ _ (λ e. h .locking option (getD frame at 0)) (λ e.
-        by-test (eqb command 0x23) _ _ (λ e. h .reading option (getD frame at 0) (getD frame (at + 1) 0)) (λ e.
+        by-test (eqb command 0x23) _ _ (λ e. h .reading option _ _) (λ e.
         by-test (eqb command 0x25) _ _ (λ e. h .selects Selected) (λ e.
         by-test (eqb command 0x26) _ _ (λ e. h .selects Ready) (λ e.
         by-test (eqb command 0x27) _ _ (λ e. h .afi option at) (λ e.
@@ -63,7 +63,7 @@ module _ (P : Deed → Type 0) where
         by-test (eqb command 0x29) _ _ (λ e. h .dsfid option at) (λ e.
         by-test (eqb command 0x2a) _ _ (λ e. h .dsfid-lock option) (λ e.
         by-test (eqb command 0x2b) _ _ (λ e. h .informs) (λ e.
-        h .status (getD frame at 0) (getD frame (at + 1) 0))))))))))))
+        h .status _ _)))))))))))
 
     asked-21 : (command : ℕ) → command ≡ 0x21 → bodyAsked command (c .size) ≡ 1 + c .size
     unfolding bodyAsked

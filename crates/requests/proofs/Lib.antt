@@ -3,4 +3,3 @@ pub mod Modes
 pub mod Rules
 pub mod Forms
 pub mod Keeps
-pub mod Examples
