@@ -9,8 +9,8 @@
 #define BLOCKS 4
 #define SIZE 4
 
-/* The tag: UID E004010000000021, Ready, nothing locked. */
-static uint8_t record[EK_CARD_RECORD] = {0x21, 0, 0, 0, 0, 0x01, 0x04, 0xE0};
+/* The tag. */
+static uint8_t record[EK_CARD_RECORD];
 static uint8_t memory[BLOCKS * SIZE];
 static uint8_t locks[BLOCKS];
 static uint8_t answer[EK_CARD_ROOM(BLOCKS, SIZE)];
@@ -46,8 +46,11 @@ int main(void)
     uint8_t request[EK_REQUEST_MAX];
     int64_t n;
 
-    record[EK_CARD_BLOCKS] = BLOCKS;
-    record[EK_CARD_SIZE] = SIZE;
+    if (ek_version() != EK_VERSION) {
+        printf("the library is not the header's\n");
+        return 1;
+    }
+    ek_card_new(record, UINT64_C(0xE004010000000021), BLOCKS, SIZE);
     ek_walk_start(&walk, EK_WALK_NO_FAMILY);
     while ((n = ek_walk_ask(&walk, request, sizeof request)) > 0) {
         n = hear(&walk, list, say(request, n));
