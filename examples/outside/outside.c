@@ -1,6 +1,6 @@
 /*
- * An inventory of one tag, both sides played here: what the walk asks for
- * reaches the card, and what the card says is heard.
+ * An inventory of one tag, both sides played here: what the walk asks
+ * for reaches the card, and what the card says is heard.
  */
 #include <espenknoten.h>
 #include <inttypes.h>
@@ -22,9 +22,9 @@ static int64_t say(const uint8_t *request, int64_t n)
         return ek_card_mark(record, sizeof record, memory, sizeof memory,
                             locks, sizeof locks, answer, sizeof answer);
     }
-    return ek_card_frame(record, sizeof record, request, (size_t)n, memory,
-                         sizeof memory, locks, sizeof locks, answer,
-                         sizeof answer);
+    return ek_card_frame(record, sizeof record, request, (size_t)n,
+                         memory, sizeof memory, locks, sizeof locks,
+                         answer, sizeof answer);
 }
 
 /* What the tag said, silence or n bytes, reaches the walk. */
@@ -36,7 +36,8 @@ static int64_t hear(struct ek_walk *walk, uint64_t *list, int64_t n)
     if (n == 0) {
         return ek_walk_hear_silence(walk, list, EK_LIST_PLACES);
     }
-    return ek_walk_hear_bytes(walk, answer, (size_t)n, list, EK_LIST_PLACES);
+    return ek_walk_hear_bytes(walk, answer, (size_t)n, list,
+                              EK_LIST_PLACES);
 }
 
 int main(void)

@@ -96,7 +96,11 @@ static void card_power_off(void)
 }
 
 static void walk_start(void) { ek_walk_start(&walk, EK_WALK_NO_FAMILY); }
-static void walk_ask(void) { back = ek_walk_ask(&walk, request, sizeof request); }
+
+static void walk_ask(void)
+{
+    back = ek_walk_ask(&walk, request, sizeof request);
+}
 
 static void walk_hear_silence(void)
 {
