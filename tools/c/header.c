@@ -184,6 +184,19 @@ static void shown(void)
     MUST(ek_get_number(answer + EK_INVENTORY_CHECK, 2) ==
          ek_check(answer, EK_INVENTORY_CHECK));
     MUST(EK_INVENTORY_CHECK + 2 == EK_INVENTORY_ANSWER);
+
+    /* By hand: the lowest byte of the UID, and what is over a byte of each. */
+    record[EK_CARD_UID] = 0x77;
+    MUST(SAY(EK_FLAG_INVENTORY | EK_FLAG_ONE_SLOT, EK_COMMAND_INVENTORY, 8,
+             0x77) == EK_INVENTORY_ANSWER);
+    MUST(ek_card_uid(record) == ek_get_number(answer + EK_INVENTORY_UID, 8));
+    record[EK_CARD_BLOCKS + 3] = 1;
+    MUST(ek_card_blocks(record) == BLOCKS + (UINT32_C(1) << 24));
+    MUST(mark() == EK_REFUSED_CARD);
+    record[EK_CARD_BLOCKS + 3] = 0;
+    record[EK_CARD_SIZE + 3] = 1;
+    MUST(ek_card_size(record) == SIZE + (UINT32_C(1) << 24));
+    MUST(mark() == EK_REFUSED_CARD);
 }
 
 /* The largest shape is served and shown; one more of either is refused. */
