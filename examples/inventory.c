@@ -91,7 +91,7 @@ static void read_back(size_t coded, uint8_t coding, const uint8_t *frame,
 
 static void slot_mark(void)
 {
-    const uint8_t mark[] = {0x20};
+    const uint8_t mark[] = {EK_TRACK_SLOT_MARK};
     uint8_t back[EK_FRAME_MAX];
     memset(back, FILL, sizeof back);
     int64_t decoded = ek_decode(mark, sizeof mark, back, sizeof back);
@@ -129,8 +129,8 @@ static void damaged_track(const uint8_t *frame, size_t length)
 
 int main(void)
 {
-    /* Flags 06: inventory, sixteen slots, no family. Command 01. No mask. */
-    uint8_t frame[3 + 2] = {0x06, 0x01, 0x00};
+    /* Sixteen slots, no family, no mask; 0x02 asks for the high data rate. */
+    uint8_t frame[3 + 2] = {0x02 | EK_FLAG_INVENTORY, EK_COMMAND_INVENTORY, 0};
     print_bytes("request", frame, 3);
 
     int64_t sealed = ek_seal(frame, sizeof frame, 3);

@@ -9,12 +9,16 @@
 
 #include "espenknoten.h"
 
+#define UID UINT64_C(0xE004010000000005)
 #define BLOCKS 32
 #define SIZE 4
 #define ROOM EK_CARD_ROOM(BLOCKS, SIZE)
 
 /* Stands in the answer's room before a call, so that a stray write is seen. */
 #define FILL 0xA5
+
+/* The radio's part of the flags: the answer is wanted at the high data rate. */
+#define HIGH_RATE 0x02
 
 /* The tag: these bytes are all that there is of it between two calls. */
 static uint8_t record[EK_CARD_RECORD];
@@ -50,8 +54,8 @@ static void print_answer(int64_t said)
     if (said == 0) {
         printf("         silence\n");
     } else {
-        const uint8_t *check = answer + said - 2;
-        must(ek_check(answer, (size_t)said - 2) == check[0] + 256 * check[1],
+        size_t length = (size_t)said - 2;
+        must(ek_check(answer, length) == ek_get_number(answer + length, 2),
              "the answer has a wrong check");
         print_bytes("", answer, (size_t)said);
     }
@@ -81,13 +85,8 @@ static void mark(void)
 
 static void new_tag(void)
 {
-    static const uint8_t uid[8] = {0x05, 0, 0, 0, 0, 0x01, 0x04, 0xE0};
-    memset(record, 0, sizeof record);
-    memcpy(record + EK_CARD_UID, uid, sizeof uid);
-    record[EK_CARD_BLOCKS] = BLOCKS;
-    record[EK_CARD_SIZE] = SIZE;
+    ek_card_new(record, UID, BLOCKS, SIZE);
     record[EK_CARD_DSFID] = 0xD5;
-    record[EK_CARD_FREE] = 0x77; /* the caller's own */
     for (size_t i = 0; i < sizeof memory; i++) {
         memory[i] = (uint8_t)i;
     }
@@ -97,37 +96,44 @@ static void new_tag(void)
 }
 
 /* Sixteen slots with no mask: the tag speaks in the slot of its low digit. */
+static const uint8_t request[] = {HIGH_RATE | EK_FLAG_INVENTORY,
+                                  EK_COMMAND_INVENTORY, 0};
+
 static void inventory(void)
 {
-    const uint8_t request[] = {0x06, 0x01, 0x00};
     send("frame", request, sizeof request);
     for (int slot = 1; slot <= 5; slot++) {
         mark();
     }
-    must(record[EK_CARD_SEQUENCE] == 1 && record[EK_CARD_SLOT] == 5,
+    must(ek_card_sequence(record) && ek_card_slot(record) == 5,
          "the sequence is not in slot 5");
+    must(ek_get_number(answer + EK_INVENTORY_UID, 8) == UID &&
+             answer[EK_INVENTORY_DSFID] == ek_card_dsfid(record),
+         "another tag answered");
 }
 
 static void read_and_write(void)
 {
-    const uint8_t read[] = {0x02, 0x20, 0x03};
-    const uint8_t read_locked[] = {0x42, 0x20, 0x01};
-    const uint8_t write[] = {0x42, 0x21, 0x03, 0xCA, 0xFE, 0xBA, 0xBE};
-    const uint8_t write_locked[] = {0x42, 0x21, 0x01, 0, 0, 0, 0};
+    const uint8_t option = HIGH_RATE | EK_FLAG_OPTION;
+    const uint8_t read[] = {HIGH_RATE, EK_COMMAND_READ_SINGLE_BLOCK, 3};
+    const uint8_t read_locked[] = {option, EK_COMMAND_READ_SINGLE_BLOCK, 1};
+    const uint8_t write[] = {option, EK_COMMAND_WRITE_SINGLE_BLOCK, 3,
+                             0xCA, 0xFE, 0xBA, 0xBE};
+    const uint8_t write_locked[] = {option, EK_COMMAND_WRITE_SINGLE_BLOCK, 1,
+                                    0, 0, 0, 0};
     send("read", read, sizeof read);
     send("read", read_locked, sizeof read_locked);
     send("write", write, sizeof write);
-    must(record[EK_CARD_HELD] == 1, "success is not held");
+    must(ek_card_held(record) == EK_HELD_SUCCESS, "success is not held");
     mark();
     send("read", read, sizeof read);
     send("write", write_locked, sizeof write_locked);
-    must(record[EK_CARD_HELD] == 0x12, "the error is not held");
+    must(ek_card_held(record) == EK_ERROR_LOCKED, "the error is not held");
     mark();
 }
 
 static void power_off(void)
 {
-    const uint8_t request[] = {0x06, 0x01, 0x00};
     send("frame", request, sizeof request);
     printf("off\n");
     memset(answer, FILL, sizeof answer);

@@ -11,9 +11,6 @@
 
 #define SLOTS 16
 
-/* An answer: flags, DSFID, UID, check. */
-#define ANSWER 12
-
 /* Past the list stands a place that no call may touch. */
 #define FENCE UINT64_C(0xA5A5A5A5A5A5A5A5)
 
@@ -37,28 +34,24 @@ static uint64_t low(uint64_t uid, unsigned bits)
 /* The mask of a request without a family: bits and their number. */
 static uint64_t mask_of(const uint8_t *request, size_t length, unsigned *bits)
 {
-    uint64_t mask = 0;
     must(ek_is_sound(request, length), "the request is unsound");
-    must(request[0] == 0x06 && request[1] == 0x01, "no inventory request");
+    must(request[0] == (0x02 | EK_FLAG_INVENTORY) &&
+             request[1] == EK_COMMAND_INVENTORY,
+         "no inventory request");
     *bits = request[2];
     must(*bits <= 60 && length == 5 + (*bits + 7) / 8, "a mask too long");
-    for (size_t i = 3; i + 2 < length; i++) {
-        mask |= (uint64_t)request[i] << (8 * (i - 3));
-    }
-    return mask;
+    return ek_get_number(request + 3, length - 5);
 }
 
 /* The field answers in a slot: silence, one card, or several at once. */
 static int64_t hear(const uint64_t *cards, size_t count, unsigned bits,
                     uint64_t mask, unsigned slot)
 {
-    uint8_t answer[ANSWER] = {0x00, 0x00};
+    uint8_t answer[EK_INVENTORY_ANSWER] = {EK_ANSWER_SUCCESS};
     unsigned answering = 0;
     for (size_t i = 0; i < count; i++) {
         if (low(cards[i], bits) == mask && (cards[i] >> bits) % SLOTS == slot) {
-            for (unsigned k = 0; k < 8; k++) {
-                answer[2 + k] = (uint8_t)(cards[i] >> (8 * k));
-            }
+            ek_put_number(answer + EK_INVENTORY_UID, 8, cards[i]);
             answering++;
         }
     }
@@ -68,7 +61,9 @@ static int64_t hear(const uint64_t *cards, size_t count, unsigned bits,
     if (answering > 1) {
         return ek_walk_hear_clash(&walk, list, EK_LIST_PLACES);
     }
-    must(ek_seal(answer, sizeof answer, ANSWER - 2) == ANSWER, "not sealed");
+    must(ek_seal(answer, sizeof answer, EK_INVENTORY_CHECK) ==
+             EK_INVENTORY_ANSWER,
+         "not sealed");
     return ek_walk_hear_bytes(&walk, answer, sizeof answer, list,
                               EK_LIST_PLACES);
 }

@@ -1,22 +1,30 @@
 /*
  * espenknoten.h: vicinity tags (ISO/IEC 15693) for the rack board's firmware.
  *
- * Every function here is proved: for all arguments that keep the four rules
- * below it returns, reads and writes nothing but the buffers it is lent, and
- * gives exactly the answer described.
+ * Every function of the archive is proved: for all arguments that keep the four
+ * rules below it returns, reads and writes nothing but the buffers it is lent,
+ * and gives exactly the answer described. The proofs are about the source; that
+ * compiler and linker made this code of it is trusted, and TRUST.md (installed
+ * in share/doc/espenknoten) says what else is. The static inline functions here
+ * are plain C: tested, not proved.
  *
  * Rules for the caller, for every function:
- *   - A buffer is a pointer and then the number of bytes behind it. All of
- *     these bytes are readable; those behind a pointer to non-const are
- *     writable too. A pointer may be NULL only if the number is 0.
+ *   - A buffer is a pointer and then the number of places behind it: bytes, or
+ *     for a list of UIDs uint64_t. All of these places are readable; those
+ *     behind a pointer to non-const are writable too. A pointer may be NULL
+ *     only if the number is 0. Bytes may stand anywhere; a list and a struct
+ *     ek_walk are aligned as C aligns their types, to 8 bytes.
  *   - The buffers of one call do not overlap.
  *   - The caller owns every buffer. Nothing is kept after the call returns,
  *     nothing is allocated, and there is no state between calls.
- *   - No other thread writes a lent buffer during the call.
+ *   - Nothing else writes a lent buffer during the call: no other thread, no
+ *     interrupt handler, no DMA. What reads one that the call may write can see
+ *     it half done. A handler may make calls of its own with other buffers.
  *
  * A call that can't be served returns minus its number, one of EK_REFUSED_..,
  * and has then changed no byte. A call that is served leaves the bytes past
- * its result as it found them.
+ * its result as it found them. The size of a buffer that a result goes to is
+ * called room.
  *
  * The archive links into x86-64 programs only.
  */
@@ -31,6 +39,45 @@
 extern "C" {
 #endif
 
+/*
+ * The version of this header; EK_VERSION is also a number for #if. ek_version
+ * returns the number of the archive's own version: if it is not EK_VERSION,
+ * header and archive do not belong together. Refuses nothing.
+ */
+#define EK_VERSION_MAJOR 1
+#define EK_VERSION_MINOR 0
+#define EK_VERSION_PATCH 0
+#define EK_VERSION                                                             \
+    (65536 * EK_VERSION_MAJOR + 256 * EK_VERSION_MINOR + EK_VERSION_PATCH)
+
+uint32_t ek_version(void);
+
+/*
+ * Refusals: minus the numbers of the rules page. Where several hold, a call
+ * gives the one that comes first in its order:
+ *
+ *   ek_seal          EK_REFUSED_ROOM
+ *   ek_code          EK_REFUSED_FRAME_OR_CODING, EK_REFUSED_ROOM
+ *   ek_decode        EK_REFUSED_ROOM, EK_REFUSED_NO_TRACK
+ *   ek_card_frame, ek_card_mark, ek_card_power_off
+ *                    EK_REFUSED_CARD, EK_REFUSED_CARD_LENGTHS,
+ *                    EK_REFUSED_CARD_LOCK, EK_REFUSED_CARD_ROOM
+ *   ek_walk_ask      EK_REFUSED_WALK, EK_REFUSED_ROOM
+ *   ek_walk_hear_..  EK_REFUSED_WALK, EK_REFUSED_ENDED, EK_REFUSED_LIST
+ *
+ * All others refuse nothing.
+ */
+#define EK_REFUSED_CARD (-1)            /* a card's record, see below */
+#define EK_REFUSED_CARD_LENGTHS (-2)    /* memory or locks of another length */
+#define EK_REFUSED_CARD_LOCK (-3)       /* a lock byte over 1 */
+#define EK_REFUSED_CARD_ROOM (-4)       /* room for the answer short */
+#define EK_REFUSED_LIST (-5)            /* fewer than EK_LIST_PLACES places */
+#define EK_REFUSED_ENDED (-6)           /* hearing after an ending */
+#define EK_REFUSED_FRAME_OR_CODING (-7) /* frame over 64 bytes, or no coding */
+#define EK_REFUSED_ROOM (-8)            /* room short */
+#define EK_REFUSED_NO_TRACK (-9)        /* not a track */
+#define EK_REFUSED_WALK (-10)           /* a walk's record, see below */
+
 /* The longest frame, in bytes. */
 #define EK_FRAME_MAX 64
 
@@ -41,21 +88,15 @@ extern "C" {
 /* What EK_DECODED_KIND gives for a track that is a slot mark. */
 #define EK_SLOT_MARK 2
 
+/* A slot mark on the air: a track of this one byte, the end of every track. */
+#define EK_TRACK_SLOT_MARK 0x20
+
 /* The length of the track of a frame of n bytes, and the longest tracks. */
 #define EK_TRACK_ONE_OF_4(n) (2 + 4 * (n))
 #define EK_TRACK_ONE_OF_256(n) (2 + 64 * (n))
 #define EK_TRACK_MAX_ONE_OF_4 EK_TRACK_ONE_OF_4(EK_FRAME_MAX)
 #define EK_TRACK_MAX_ONE_OF_256 EK_TRACK_ONE_OF_256(EK_FRAME_MAX)
 #define EK_TRACK_MAX EK_TRACK_MAX_ONE_OF_256
-
-/* Refusals: minus the numbers of the rules page. */
-#define EK_REFUSED_CARD (-1)            /* a card's record, see below */
-#define EK_REFUSED_CARD_LENGTHS (-2)    /* memory or locks of another length */
-#define EK_REFUSED_CARD_LOCK (-3)       /* a lock byte over 1 */
-#define EK_REFUSED_CARD_ROOM (-4)       /* room for the answer short */
-#define EK_REFUSED_FRAME_OR_CODING (-7) /* frame over 64 bytes, or no coding */
-#define EK_REFUSED_ROOM (-8)            /* room short */
-#define EK_REFUSED_NO_TRACK (-9)        /* not a track */
 
 /*
  * The check (CRC) of ISO/IEC 13239 over length bytes. It is sent low byte
@@ -103,6 +144,69 @@ int64_t ek_decode(const uint8_t *track, size_t length, uint8_t *frame,
 #define EK_DECODED_KIND(r) ((int)((r) / 65536))
 #define EK_DECODED_LENGTH(r) ((size_t)((r) % 65536))
 
+/* A number of up to 8 bytes, least significant byte first: read, and put. */
+static inline uint64_t ek_get_number(const uint8_t *bytes, size_t count)
+{
+    uint64_t number = 0;
+    while (count > 0) {
+        count--;
+        number = number << 8 | bytes[count];
+    }
+    return number;
+}
+
+static inline void ek_put_number(uint8_t *bytes, size_t count, uint64_t number)
+{
+    for (size_t i = 0; i < count; i++) {
+        bytes[i] = (uint8_t)number;
+        number >>= 8;
+    }
+}
+
+/*
+ * A request begins with its flags and its command; then come the UID where it
+ * is addressed, the body, and the check. The two lowest flags are the radio's.
+ */
+#define EK_FLAG_INVENTORY 0x04
+#define EK_FLAG_SELECT 0x10   /* without EK_FLAG_INVENTORY */
+#define EK_FLAG_ADDRESS 0x20
+#define EK_FLAG_OPTION 0x40
+#define EK_FLAG_AFI 0x10      /* with it */
+#define EK_FLAG_ONE_SLOT 0x20 /* without this, sixteen slots */
+
+#define EK_COMMAND_INVENTORY 0x01
+#define EK_COMMAND_STAY_QUIET 0x02
+#define EK_COMMAND_READ_SINGLE_BLOCK 0x20
+#define EK_COMMAND_WRITE_SINGLE_BLOCK 0x21
+#define EK_COMMAND_LOCK_BLOCK 0x22
+#define EK_COMMAND_READ_MULTIPLE_BLOCKS 0x23
+#define EK_COMMAND_SELECT 0x25
+#define EK_COMMAND_RESET_TO_READY 0x26
+#define EK_COMMAND_WRITE_AFI 0x27
+#define EK_COMMAND_LOCK_AFI 0x28
+#define EK_COMMAND_WRITE_DSFID 0x29
+#define EK_COMMAND_LOCK_DSFID 0x2A
+#define EK_COMMAND_GET_SYSTEM_INFORMATION 0x2B
+#define EK_COMMAND_GET_MULTIPLE_BLOCK_SECURITY_STATUS 0x2C
+
+/* An answer begins with one of these; after the second comes an error code. */
+#define EK_ANSWER_SUCCESS 0x00
+#define EK_ANSWER_ERROR 0x01
+
+#define EK_ERROR_COMMAND 0x01 /* command not listed above */
+#define EK_ERROR_LENGTH 0x02  /* body of a wrong length */
+#define EK_ERROR_OPTION 0x03  /* Option where the command has none */
+#define EK_ERROR_BLOCK 0x10   /* block outside the memory */
+#define EK_ERROR_RELOCK 0x11  /* locking what is locked */
+#define EK_ERROR_LOCKED 0x12  /* writing what is locked */
+
+/* The answer to an inventory: its length, and the places of its bytes. */
+#define EK_INVENTORY_ANSWER 12
+#define EK_INVENTORY_FLAGS 0 /* EK_ANSWER_SUCCESS */
+#define EK_INVENTORY_DSFID 1
+#define EK_INVENTORY_UID 2    /* 8 bytes */
+#define EK_INVENTORY_CHECK 10 /* 2 bytes */
+
 /*
  * A card, played by its tag's four buffers. All are the caller's, who keeps
  * them from one call to the next; the first three are the card:
@@ -116,35 +220,38 @@ int64_t ek_decode(const uint8_t *track, size_t length, uint8_t *frame,
  * The record, numbers least significant byte first:
  *
  *   EK_CARD_UID          8 bytes   the UID, as it is sent
- *   EK_CARD_BLOCKS       4 bytes   how many blocks, 1 to 256
- *   EK_CARD_SIZE         4 bytes   how many bytes a block has, 1 to 32
+ *   EK_CARD_BLOCKS       4 bytes   how many blocks, 1 to EK_CARD_BLOCKS_MAX
+ *   EK_CARD_SIZE         4 bytes   how many bytes a block has, 1 to
+ *                                  EK_CARD_SIZE_MAX
  *   EK_CARD_AFI          1 byte
  *   EK_CARD_DSFID        1 byte
  *   EK_CARD_AFI_LOCKED   1 byte    0 open, all else locked
  *   EK_CARD_DSFID_LOCKED 1 byte    0 open, all else locked
  *   EK_CARD_IC           1 byte    IC reference
- *   EK_CARD_MODE         1 byte    0 Ready, 1 Quiet, all else Selected
+ *   EK_CARD_MODE         1 byte    EK_MODE_READY, EK_MODE_QUIET, all else
+ *                                  Selected
  *   EK_CARD_SEQUENCE     1 byte    0 no slot sequence, all else one runs
  *   EK_CARD_SLOT         1 byte    its slot, 0 to 15
  *   EK_CARD_MASK_LENGTH  1 byte    its mask length in bits, 0 to 60
- *   EK_CARD_HELD         1 byte    the held answer: 0 none, 1 success, all else
- *                                  an error code
- *   EK_CARD_FREE         6 bytes   the caller's, never read or written
+ *   EK_CARD_HELD         1 byte    the held answer: EK_HELD_NONE,
+ *                                  EK_HELD_SUCCESS, all else an error code
+ *   EK_CARD_FREE         6 bytes   reserved: put 0, left as found
  *   EK_CARD_MASK         8 bytes   its mask, with no bit set above its length
  *
  * With no sequence its slot, mask length and mask are not read. So a new card
- * is a record of zeros with a UID, a shape and what else it is to have.
+ * is a record of zeros with a UID and a shape, as ek_card_new makes it; a field
+ * of one byte is then put as in record[EK_CARD_AFI] = 0x30.
  *
  * A call that is served writes the next record: a flag as 0 or 1, the mode as
- * 0, 1 or 2, and with no sequence its four fields as 0. It returns the answer's
- * length, or 0 for silence, which leaves the answer's buffer as found.
+ * one of EK_MODE_.., and with no sequence its four fields as 0. It returns the
+ * answer's length, or 0 for silence, which leaves the answer's buffer as found.
  *
  * Each of the three calls looks for its refusals in this order, and a refused
  * call has changed no byte of any buffer:
  *   EK_REFUSED_CARD: the record has another length; blocks or size are outside
  *   their limits; a sequence runs whose slot is over 15, whose mask length is
- *   over 60, or whose mask has a bit above it; a held code is none of 0x02,
- *   0x10, 0x11 and 0x12.
+ *   over 60, or whose mask has a bit above it; a held code is none of
+ *   EK_ERROR_LENGTH, EK_ERROR_BLOCK, EK_ERROR_RELOCK and EK_ERROR_LOCKED.
  *   EK_REFUSED_CARD_LENGTHS: memory_length is not blocks * size, or
  *   locks_length is not blocks.
  *   EK_REFUSED_CARD_LOCK: a lock byte is over 1.
@@ -167,9 +274,115 @@ int64_t ek_decode(const uint8_t *track, size_t length, uint8_t *frame,
 #define EK_CARD_FREE 26
 #define EK_CARD_MASK 32
 
-/* The room that an answer needs: 3 + blocks * (size + 1), and 32 at least. */
+/* The largest shape. */
+#define EK_CARD_BLOCKS_MAX 256
+#define EK_CARD_SIZE_MAX 32
+
+#define EK_MODE_READY 0
+#define EK_MODE_QUIET 1
+#define EK_MODE_SELECTED 2
+
+#define EK_HELD_NONE 0
+#define EK_HELD_SUCCESS 1
+
+/*
+ * The room that an answer needs: 3 + blocks * (size + 1), and 32 at least. Both
+ * arguments are evaluated twice.
+ */
 #define EK_CARD_ROOM(blocks, size)                                             \
     ((blocks) * ((size) + 1) < 29 ? 32 : 3 + (blocks) * ((size) + 1))
+
+/*
+ * Makes the record of a new card, all its EK_CARD_RECORD bytes: Ready, nothing
+ * locked, all but UID and shape 0. The UID 0xE004010000000021 is sent as 21 00
+ * 00 00 00 01 04 E0. A shape outside the limits is put too, and is refused by
+ * each event.
+ */
+static inline void ek_card_new(uint8_t *record, uint64_t uid, uint32_t blocks,
+                               uint32_t size)
+{
+    for (size_t i = 0; i < EK_CARD_RECORD; i++) {
+        record[i] = 0;
+    }
+    ek_put_number(record + EK_CARD_UID, 8, uid);
+    ek_put_number(record + EK_CARD_BLOCKS, 4, blocks);
+    ek_put_number(record + EK_CARD_SIZE, 4, size);
+}
+
+/* What a record of EK_CARD_RECORD bytes holds, as the events take it. */
+static inline uint64_t ek_card_uid(const uint8_t *record)
+{
+    return ek_get_number(record + EK_CARD_UID, 8);
+}
+
+static inline uint32_t ek_card_blocks(const uint8_t *record)
+{
+    return (uint32_t)ek_get_number(record + EK_CARD_BLOCKS, 4);
+}
+
+static inline uint32_t ek_card_size(const uint8_t *record)
+{
+    return (uint32_t)ek_get_number(record + EK_CARD_SIZE, 4);
+}
+
+static inline uint8_t ek_card_afi(const uint8_t *record)
+{
+    return record[EK_CARD_AFI];
+}
+
+static inline uint8_t ek_card_dsfid(const uint8_t *record)
+{
+    return record[EK_CARD_DSFID];
+}
+
+static inline bool ek_card_afi_locked(const uint8_t *record)
+{
+    return record[EK_CARD_AFI_LOCKED] != 0;
+}
+
+static inline bool ek_card_dsfid_locked(const uint8_t *record)
+{
+    return record[EK_CARD_DSFID_LOCKED] != 0;
+}
+
+static inline uint8_t ek_card_ic(const uint8_t *record)
+{
+    return record[EK_CARD_IC];
+}
+
+/* EK_MODE_READY, EK_MODE_QUIET or EK_MODE_SELECTED. */
+static inline uint8_t ek_card_mode(const uint8_t *record)
+{
+    return record[EK_CARD_MODE] < EK_MODE_SELECTED ? record[EK_CARD_MODE]
+                                                   : EK_MODE_SELECTED;
+}
+
+/* EK_HELD_NONE, EK_HELD_SUCCESS or an error code. */
+static inline uint8_t ek_card_held(const uint8_t *record)
+{
+    return record[EK_CARD_HELD];
+}
+
+/* Whether a slot sequence runs; the next three mean something only if so. */
+static inline bool ek_card_sequence(const uint8_t *record)
+{
+    return record[EK_CARD_SEQUENCE] != 0;
+}
+
+static inline uint8_t ek_card_slot(const uint8_t *record)
+{
+    return record[EK_CARD_SLOT];
+}
+
+static inline uint8_t ek_card_mask_length(const uint8_t *record)
+{
+    return record[EK_CARD_MASK_LENGTH];
+}
+
+static inline uint64_t ek_card_mask(const uint8_t *record)
+{
+    return ek_get_number(record + EK_CARD_MASK, 8);
+}
 
 /*
  * A frame of length bytes arrives, good or bad. May change the record, a block
@@ -209,10 +422,12 @@ int64_t ek_card_power_off(uint8_t *record, size_t record_length,
  *     ek_walk_start(&walk, EK_WALK_NO_FAMILY);
  *     for (;;) {
  *         int64_t n = ek_walk_ask(&walk, request, sizeof request);
- *         if (n == EK_SEND_NOTHING) break;          ended: see walk.ending
- *         if (n == EK_SEND_MARK) ..                 send a slot mark
+ *         if (n < 0) ..                             refused: stop and tell
+ *         else if (n == EK_SEND_NOTHING) break;     ended: see walk.ending
+ *         else if (n == EK_SEND_MARK) ..            send a slot mark
  *         else ..                                   send n bytes of request
- *         .. listen, then one of the three calls ek_walk_hear_..
+ *         .. listen, then n = one of the three calls ek_walk_hear_..
+ *         if (n < 0) ..                             refused: stop and tell
  *     }
  *
  * The record has no hidden part: it may be copied, kept and read at any time.
@@ -235,7 +450,8 @@ struct ek_walk {
     uint8_t ending;     /* one of EK_WALK_.. below; all else: overrun */
 };
 
-/* The record is 48 bytes, without padding: else this does not compile. */
+/* The record is 48 bytes, without padding: else this does not compile. Its
+ * alignment is that of uint64_t. */
 typedef char ek_walk_has_48_bytes[sizeof(struct ek_walk) == 48 ? 1 : -1];
 
 /* The walk's endings, and 0 as long as it runs. */
@@ -256,10 +472,6 @@ typedef char ek_walk_has_48_bytes[sizeof(struct ek_walk) == 48 ? 1 : -1];
 #define EK_SEND_NOTHING 0
 #define EK_SEND_MARK 1
 
-#define EK_REFUSED_LIST (-5)  /* list of fewer than EK_LIST_PLACES places */
-#define EK_REFUSED_ENDED (-6) /* hearing after an ending */
-#define EK_REFUSED_WALK (-10) /* no record of a walk */
-
 /*
  * Starts a walk over whatever stands in the record; it is not looked at.
  * Refuses nothing.
@@ -269,21 +481,21 @@ void ek_walk_start(struct ek_walk *walk, uint16_t family);
 /*
  * What to send now; it may be asked often, and the record stays as it is. The
  * length of a request, 5 to EK_REQUEST_MAX, which then stands at the start of
- * room; or EK_SEND_MARK for a slot mark; or EK_SEND_NOTHING after an ending.
- * For the last two no byte of room changes.
+ * request; or EK_SEND_MARK for a slot mark; or EK_SEND_NOTHING after an ending.
+ * For the last two no byte of request changes.
  * EK_REFUSED_WALK. EK_REFUSED_ROOM, looked for after that: what to send is a
- * request, and length is less than EK_REQUEST_MAX, whatever the request needs.
+ * request, and room is less than EK_REQUEST_MAX, whatever the request needs.
  */
-int64_t ek_walk_ask(const struct ek_walk *walk, uint8_t *room, size_t length);
+int64_t ek_walk_ask(const struct ek_walk *walk, uint8_t *request, size_t room);
 
 /*
  * The slot is over: nothing was heard, or something that can't be read, or
- * length bytes. Bytes are a clean reply if they are 12, sealed, begin with 00
- * and their UID fits the mask and the slot; all else is a clash. Returns 0. The
- * record is then that of the next slot, or of the next round, or an ending has
- * been noted in it; the UID of a clean reply stands in list at the place that
- * walk->count had, and no other place changes. places counts the places of
- * list, not its bytes; only the first EK_LIST_PLACES are used.
+ * length bytes. Bytes are a clean reply if there are EK_INVENTORY_ANSWER of
+ * them, sealed, they begin with EK_ANSWER_SUCCESS, and their UID fits mask and
+ * slot; all else is a clash. Returns 0. The record is then that of the next
+ * slot, or of the next round, or an ending has been noted in it; the UID of a
+ * clean reply stands in list at the place that walk->count had, and no other
+ * place changes. Only the first EK_LIST_PLACES places are used.
  * In this order EK_REFUSED_WALK, EK_REFUSED_ENDED, EK_REFUSED_LIST: the record
  * and the list stay as they are.
  */

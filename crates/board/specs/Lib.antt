@@ -1,3 +1,4 @@
 pub mod Calls
 pub mod Walked
 pub mod Steps
+pub mod Version

@@ -11,8 +11,23 @@ ghost use Rattle.tracks.specs.Coder.{Codes};
 ghost use Rattle.tracks.specs.Decoder.{Decodes};
 ghost use Rattle.board.specs.Calls.{frameCall, markCall, offCall, Gives};
 ghost use Rattle.board.specs.Steps.{Settles};
+ghost use Rattle.board.specs.Version.{version};
 use crate::in_place::minus;
 use play::Served;
+
+// The version, as the file VERSION and the header have it.
+const MAJOR: u32 = 1;
+
+const MINOR: u32 = 0;
+
+const PATCH: u32 = 0;
+
+#[no_mangle]
+pub extern "C" fn ek_version() -> u32
+    ensures { λ r. ⌜ r ≡ version ⌝ }
+{
+    65536 * MAJOR + 256 * MINOR + PATCH
+}
 
 #[no_mangle]
 pub extern "C" fn ek_check(bytes: &[u8]) -> u16

@@ -1,0 +1,630 @@
+/*
+ * The header held to the library: every constant, macro and inline function of
+ * espenknoten.h against what the archive does. A place of the record is held by
+ * reading back what a card shows of it, a limit by meeting and passing it, a
+ * refusal by provoking it in its order. tools/check-c sees that every name of
+ * the header stands here, and that each constant one greater is found out.
+ */
+#include <stdio.h>
+#include <stdlib.h>
+#include <string.h>
+
+#include "espenknoten.h"
+
+#define UID UINT64_C(0xE004010203040506)
+#define BLOCKS 4
+#define SIZE 3
+
+/* Where the body of an answer begins, after its flags. */
+#define BODY 1
+
+static uint8_t record[EK_CARD_RECORD + 1];
+static uint8_t memory[(EK_CARD_BLOCKS_MAX + 1) * (EK_CARD_SIZE_MAX + 1)];
+static uint8_t locks[EK_CARD_BLOCKS_MAX + 1];
+static uint8_t answer[EK_CARD_ROOM(EK_CARD_BLOCKS_MAX, EK_CARD_SIZE_MAX)];
+static size_t blocks = BLOCKS;
+static size_t size = SIZE;
+
+#define MUST(holds) must(holds, #holds, __LINE__)
+
+static void must(bool holds, const char *what, int line)
+{
+    if (!holds) {
+        fprintf(stderr, "header.c:%d: not so: %s\n", line, what);
+        exit(1);
+    }
+}
+
+/* ---- the card's calls, over the buffers above */
+
+static void new_card(void)
+{
+    blocks = BLOCKS;
+    size = SIZE;
+    ek_card_new(record, UID, BLOCKS, SIZE);
+    record[EK_CARD_AFI] = 0xAF;
+    record[EK_CARD_DSFID] = 0xD5;
+    record[EK_CARD_IC] = 0x1C;
+    memset(locks, 0, sizeof locks);
+    for (size_t i = 0; i < sizeof memory; i++) {
+        memory[i] = (uint8_t)(i + 1);
+    }
+}
+
+/* A message of so many bytes reaches the card, with its check. */
+static int64_t say(const uint8_t *message, size_t length)
+{
+    uint8_t frame[EK_FRAME_MAX];
+    memcpy(frame, message, length);
+    int64_t sealed = ek_seal(frame, sizeof frame, length);
+    MUST(sealed == (int64_t)length + 2);
+    return ek_card_frame(record, EK_CARD_RECORD, frame, (size_t)sealed, memory,
+                         blocks * size, locks, blocks, answer, sizeof answer);
+}
+
+#define SAY(...)                                                               \
+    say((const uint8_t[]){__VA_ARGS__}, sizeof((const uint8_t[]){__VA_ARGS__}))
+
+static int64_t mark(void)
+{
+    return ek_card_mark(record, EK_CARD_RECORD, memory, blocks * size, locks,
+                        blocks, answer, sizeof answer);
+}
+
+static int64_t power_off(void)
+{
+    return ek_card_power_off(record, EK_CARD_RECORD, memory, blocks * size,
+                             locks, blocks, answer, sizeof answer);
+}
+
+/* Whether the card said no more than success, or just this error. */
+static bool success(int64_t said)
+{
+    return said == 3 && answer[0] == EK_ANSWER_SUCCESS;
+}
+
+static bool error(int64_t said, uint8_t code)
+{
+    return said == 4 && answer[0] == EK_ANSWER_ERROR && answer[1] == code;
+}
+
+/* ---- version, tracks, refusals of the first calls */
+
+static void version(void)
+{
+    MUST(ek_version() == EK_VERSION);
+    MUST(ek_version() >> 16 == EK_VERSION_MAJOR);
+    MUST((ek_version() >> 8 & 0xFF) == EK_VERSION_MINOR);
+    MUST((ek_version() & 0xFF) == EK_VERSION_PATCH);
+}
+
+static void tracks(void)
+{
+    uint8_t frame[EK_FRAME_MAX + 1] = {0};
+    uint8_t back[EK_FRAME_MAX];
+    static uint8_t track[EK_TRACK_MAX];
+    static const size_t longest[] = {EK_TRACK_MAX_ONE_OF_4,
+                                     EK_TRACK_MAX_ONE_OF_256};
+    MUST(EK_TRACK_MAX == longest[EK_ONE_OF_256]);
+    for (uint8_t coding = EK_ONE_OF_4; coding <= EK_ONE_OF_256; coding++) {
+        for (size_t n = 0; n <= EK_FRAME_MAX; n++) {
+            size_t length = coding == EK_ONE_OF_4 ? EK_TRACK_ONE_OF_4(n)
+                                                  : EK_TRACK_ONE_OF_256(n);
+            MUST(length <= longest[coding]);
+            MUST(ek_code(frame, n, coding, track, length - 1) ==
+                 EK_REFUSED_ROOM);
+            MUST(ek_code(frame, n, coding, track, length) == (int64_t)length);
+            int64_t r = ek_decode(track, length, back, EK_FRAME_MAX);
+            MUST(EK_DECODED_KIND(r) == coding && EK_DECODED_LENGTH(r) == n);
+            MUST(track[0] == (coding == EK_ONE_OF_4 ? 0x84 : 0x81));
+            MUST(track[length - 1] == EK_TRACK_SLOT_MARK);
+        }
+        MUST(ek_code(frame, EK_FRAME_MAX, coding, track, longest[coding]) ==
+             (int64_t)longest[coding]);
+        MUST(ek_code(frame, EK_FRAME_MAX + 1, coding, track, sizeof track) ==
+             EK_REFUSED_FRAME_OR_CODING);
+    }
+    const uint8_t slot_mark[] = {EK_TRACK_SLOT_MARK};
+    int64_t r = ek_decode(slot_mark, 1, back, EK_FRAME_MAX);
+    MUST(EK_DECODED_KIND(r) == EK_SLOT_MARK && EK_DECODED_LENGTH(r) == 0);
+}
+
+/* All faults of a call at once, then one fewer each time: the order. */
+static void orders_of_tracks(void)
+{
+    uint8_t frame[EK_FRAME_MAX + 1] = {0};
+    uint8_t track[EK_TRACK_ONE_OF_4(1)];
+    const uint8_t rubbish[] = {0x84, 0x40, 0x20};
+    MUST(ek_seal(frame, 3, 2) == EK_REFUSED_ROOM);
+    MUST(ek_seal(frame, 4, 2) == 4);
+    MUST(ek_code(frame, EK_FRAME_MAX + 1, EK_ONE_OF_4, track, 0) ==
+         EK_REFUSED_FRAME_OR_CODING);
+    MUST(ek_code(frame, 1, EK_ONE_OF_256 + 1, track, 0) ==
+         EK_REFUSED_FRAME_OR_CODING);
+    MUST(ek_code(frame, 1, EK_ONE_OF_4, track, sizeof track - 1) ==
+         EK_REFUSED_ROOM);
+    MUST(ek_code(frame, 1, EK_ONE_OF_4, track, sizeof track) ==
+         (int64_t)sizeof track);
+    MUST(ek_decode(rubbish, sizeof rubbish, frame, EK_FRAME_MAX - 1) ==
+         EK_REFUSED_ROOM);
+    MUST(ek_decode(rubbish, sizeof rubbish, frame, EK_FRAME_MAX) ==
+         EK_REFUSED_NO_TRACK);
+    MUST(ek_decode(track, sizeof track, frame, EK_FRAME_MAX) >= 0);
+    frame[0] = 0x02;
+    MUST(ek_seal(frame, EK_FRAME_MAX, EK_FRAME_MAX - 2) == EK_FRAME_MAX);
+    MUST(ek_is_sound(frame, EK_FRAME_MAX));
+    MUST(ek_seal(frame, EK_FRAME_MAX + 1, EK_FRAME_MAX - 1) ==
+         EK_FRAME_MAX + 1);
+    MUST(!ek_is_sound(frame, EK_FRAME_MAX + 1));
+    MUST(ek_check(frame, 0) == 0);
+}
+
+/* ---- the card's record */
+
+/* System information and inventory show UID, shape, AFI, DSFID and IC. */
+static void shown(void)
+{
+    new_card();
+    MUST(SAY(0x02, EK_COMMAND_GET_SYSTEM_INFORMATION) == 17);
+    MUST(answer[0] == EK_ANSWER_SUCCESS && answer[1] == 0x0F);
+    MUST(ek_get_number(answer + 2, 8) == UID);
+    MUST(answer[10] == 0xD5 && answer[11] == 0xAF);
+    MUST(answer[12] == BLOCKS - 1 && answer[13] == SIZE - 1);
+    MUST(answer[14] == 0x1C);
+    MUST(ek_card_uid(record) == UID);
+    MUST(ek_card_blocks(record) == BLOCKS && ek_card_size(record) == SIZE);
+    MUST(ek_card_afi(record) == 0xAF && ek_card_dsfid(record) == 0xD5);
+    MUST(ek_card_ic(record) == 0x1C);
+
+    MUST(SAY(EK_FLAG_INVENTORY | EK_FLAG_ONE_SLOT, EK_COMMAND_INVENTORY, 0) ==
+         EK_INVENTORY_ANSWER);
+    MUST(answer[EK_INVENTORY_FLAGS] == EK_ANSWER_SUCCESS);
+    MUST(answer[EK_INVENTORY_DSFID] == 0xD5);
+    MUST(ek_get_number(answer + EK_INVENTORY_UID, 8) == UID);
+    MUST(ek_get_number(answer + EK_INVENTORY_CHECK, 2) ==
+         ek_check(answer, EK_INVENTORY_CHECK));
+    MUST(EK_INVENTORY_CHECK + 2 == EK_INVENTORY_ANSWER);
+
+    /* By hand: the lowest byte of the UID, and what is over a byte of each. */
+    record[EK_CARD_UID] = 0x77;
+    MUST(SAY(EK_FLAG_INVENTORY | EK_FLAG_ONE_SLOT, EK_COMMAND_INVENTORY, 8,
+             0x77) == EK_INVENTORY_ANSWER);
+    MUST(ek_card_uid(record) == ek_get_number(answer + EK_INVENTORY_UID, 8));
+    record[EK_CARD_BLOCKS + 3] = 1;
+    MUST(ek_card_blocks(record) == BLOCKS + (UINT32_C(1) << 24));
+    MUST(mark() == EK_REFUSED_CARD);
+    record[EK_CARD_BLOCKS + 3] = 0;
+    record[EK_CARD_SIZE + 3] = 1;
+    MUST(ek_card_size(record) == SIZE + (UINT32_C(1) << 24));
+    MUST(mark() == EK_REFUSED_CARD);
+}
+
+/* The largest shape is served and shown; one more of either is refused. */
+static void shapes(void)
+{
+    static const struct {
+        uint32_t blocks, size;
+    } fit[] = {{1, 1}, {7, 3}, {2, 14}, {29, 1}, {EK_CARD_BLOCKS_MAX, 1},
+               {1, EK_CARD_SIZE_MAX}, {EK_CARD_BLOCKS_MAX, EK_CARD_SIZE_MAX}};
+    for (size_t i = 0; i < sizeof fit / sizeof *fit; i++) {
+        new_card();
+        blocks = fit[i].blocks;
+        size = fit[i].size;
+        ek_card_new(record, UID, fit[i].blocks, fit[i].size);
+        MUST(ek_card_blocks(record) == blocks && ek_card_size(record) == size);
+        size_t room = EK_CARD_ROOM(blocks, size);
+        MUST(ek_card_mark(record, EK_CARD_RECORD, memory, blocks * size, locks,
+                          blocks, answer, room) == 0);
+        MUST(ek_card_mark(record, EK_CARD_RECORD, memory, blocks * size, locks,
+                          blocks, answer, room - 1) == EK_REFUSED_CARD_ROOM);
+        MUST(SAY(0x02, EK_COMMAND_GET_SYSTEM_INFORMATION) == 17);
+        MUST(answer[12] + 1u == blocks && answer[13] + 1u == size);
+    }
+    blocks = EK_CARD_BLOCKS_MAX + 1;
+    size = 1;
+    ek_card_new(record, UID, EK_CARD_BLOCKS_MAX + 1, 1);
+    MUST(mark() == EK_REFUSED_CARD);
+    blocks = 1;
+    size = EK_CARD_SIZE_MAX + 1;
+    ek_card_new(record, UID, 1, EK_CARD_SIZE_MAX + 1);
+    MUST(mark() == EK_REFUSED_CARD);
+    ek_card_new(record, UID, 0, 1);
+    MUST(mark() == EK_REFUSED_CARD);
+}
+
+/* A new card is Ready, with nothing locked, held or running, and all else 0. */
+static void fresh(void)
+{
+    memset(record, 0xFF, sizeof record);
+    ek_card_new(record, 0, BLOCKS, SIZE);
+    MUST(record[EK_CARD_RECORD] == 0xFF);
+    MUST(ek_card_mode(record) == EK_MODE_READY);
+    MUST(ek_card_held(record) == EK_HELD_NONE && !ek_card_sequence(record));
+    MUST(!ek_card_afi_locked(record) && !ek_card_dsfid_locked(record));
+    record[EK_CARD_BLOCKS] = 0;
+    record[EK_CARD_SIZE] = 0;
+    for (size_t i = 0; i < EK_CARD_RECORD; i++) {
+        MUST(record[i] == 0);
+    }
+}
+
+static void modes(void)
+{
+    uint8_t quiet[10] = {EK_FLAG_ADDRESS, EK_COMMAND_STAY_QUIET};
+    uint8_t select[10] = {EK_FLAG_ADDRESS, EK_COMMAND_SELECT};
+    uint8_t reset[10] = {EK_FLAG_ADDRESS, EK_COMMAND_RESET_TO_READY};
+    ek_put_number(quiet + 2, 8, UID);
+    ek_put_number(select + 2, 8, UID);
+    ek_put_number(reset + 2, 8, UID);
+    new_card();
+    MUST(say(quiet, sizeof quiet) == 0);
+    MUST(record[EK_CARD_MODE] == EK_MODE_QUIET);
+    MUST(ek_card_mode(record) == EK_MODE_QUIET);
+    MUST(SAY(0x02, EK_COMMAND_READ_SINGLE_BLOCK, 0) == 0);
+    MUST(success(say(reset, sizeof reset)));
+    MUST(record[EK_CARD_MODE] == EK_MODE_READY);
+    MUST(SAY(EK_FLAG_SELECT, EK_COMMAND_READ_SINGLE_BLOCK, 0) == 0);
+    MUST(success(say(select, sizeof select)));
+    MUST(record[EK_CARD_MODE] == EK_MODE_SELECTED);
+    MUST(SAY(EK_FLAG_SELECT, EK_COMMAND_READ_SINGLE_BLOCK, 0) == 3 + SIZE);
+    record[EK_CARD_MODE] = 0xEE; /* read as Selected, and written as that */
+    MUST(ek_card_mode(record) == EK_MODE_SELECTED);
+    MUST(SAY(EK_FLAG_SELECT, EK_COMMAND_READ_SINGLE_BLOCK, 0) == 3 + SIZE);
+    MUST(record[EK_CARD_MODE] == EK_MODE_SELECTED);
+    MUST(power_off() == 0);
+    MUST(ek_card_mode(record) == EK_MODE_READY);
+}
+
+/* A mask of one byte calls the card; its slot is the digit above it. */
+static void sequence(void)
+{
+    const uint8_t low = (uint8_t)UID;
+    const uint8_t slot = (uint8_t)(UID >> 8) % 16;
+    new_card();
+    MUST(SAY(EK_FLAG_INVENTORY | EK_FLAG_AFI, EK_COMMAND_INVENTORY, 0xA0, 8,
+             low) == 0);
+    MUST(!ek_card_sequence(record)); /* another family */
+    MUST(SAY(EK_FLAG_INVENTORY | EK_FLAG_AFI, EK_COMMAND_INVENTORY, 0xAF, 8,
+             low) == 0);
+    for (uint8_t s = 0; s < slot; s++) {
+        MUST(ek_card_sequence(record) && record[EK_CARD_SEQUENCE] == 1);
+        MUST(record[EK_CARD_SLOT] == s && ek_card_slot(record) == s);
+        MUST(mark() == (s + 1 == slot ? EK_INVENTORY_ANSWER : 0));
+    }
+    MUST(record[EK_CARD_SLOT] == slot);
+    MUST(record[EK_CARD_MASK_LENGTH] == 8 && ek_card_mask_length(record) == 8);
+    MUST(record[EK_CARD_MASK] == low && ek_card_mask(record) == low);
+
+    /* Each of the three is looked at, and the mask to its eighth byte. */
+    record[EK_CARD_SLOT] = 15;
+    MUST(mark() == 0 && !ek_card_sequence(record));
+    record[EK_CARD_SEQUENCE] = 2;
+    record[EK_CARD_MASK_LENGTH] = 60;
+    record[EK_CARD_SLOT] = 0xD;
+    ek_put_number(record + EK_CARD_MASK, 8, UID % (UINT64_C(1) << 60));
+    MUST(ek_card_mask(record) == UID % (UINT64_C(1) << 60));
+    MUST(mark() == EK_INVENTORY_ANSWER);
+    record[EK_CARD_SLOT] = 16;
+    MUST(mark() == EK_REFUSED_CARD);
+    record[EK_CARD_SLOT] = 0;
+    record[EK_CARD_MASK_LENGTH] = 61;
+    MUST(mark() == EK_REFUSED_CARD);
+    record[EK_CARD_MASK_LENGTH] = 60;
+    record[EK_CARD_MASK + 7] = 0x10;
+    MUST(mark() == EK_REFUSED_CARD);
+    record[EK_CARD_SEQUENCE] = 0;
+    MUST(mark() == 0);
+    MUST(record[EK_CARD_MASK + 7] == 0);
+}
+
+/* Each command by what it does, and each error by a request that earns it. The
+ * card passes over the two lowest flags, so no name may have them. */
+static void commands(void)
+{
+    MUST(((EK_FLAG_INVENTORY | EK_FLAG_SELECT | EK_FLAG_ADDRESS |
+           EK_FLAG_OPTION | EK_FLAG_AFI | EK_FLAG_ONE_SLOT) &
+          0x03) == 0);
+    new_card();
+    MUST(SAY(0x02, EK_COMMAND_READ_SINGLE_BLOCK, 2) == 3 + SIZE);
+    MUST(memcmp(answer + BODY, memory + 2 * SIZE, SIZE) == 0);
+    MUST(success(SAY(0x02, EK_COMMAND_WRITE_SINGLE_BLOCK, 2, 0xCA, 0xFE, 0)));
+    MUST(memory[2 * SIZE] == 0xCA && memory[2 * SIZE + 1] == 0xFE);
+    MUST(success(SAY(0x02, EK_COMMAND_LOCK_BLOCK, 2)) && locks[2] == 1);
+    MUST(SAY(0x02, EK_COMMAND_READ_MULTIPLE_BLOCKS, 1, 2) == 3 + 3 * SIZE);
+    MUST(memcmp(answer + BODY, memory + SIZE, 3 * SIZE) == 0);
+    MUST(SAY(EK_FLAG_OPTION, EK_COMMAND_READ_SINGLE_BLOCK, 2) == 4 + SIZE);
+    MUST(answer[BODY] == 1);
+    MUST(SAY(0x02, EK_COMMAND_GET_MULTIPLE_BLOCK_SECURITY_STATUS, 1, 1) == 5);
+    MUST(answer[BODY] == 0 && answer[BODY + 1] == 1);
+
+    MUST(success(SAY(0x02, EK_COMMAND_WRITE_AFI, 0x30)));
+    MUST(record[EK_CARD_AFI] == 0x30);
+    MUST(success(SAY(0x02, EK_COMMAND_LOCK_AFI)));
+    MUST(record[EK_CARD_AFI_LOCKED] == 1 && ek_card_afi_locked(record));
+    MUST(!ek_card_dsfid_locked(record));
+    MUST(error(SAY(0x02, EK_COMMAND_WRITE_AFI, 0x31), EK_ERROR_LOCKED));
+    MUST(success(SAY(0x02, EK_COMMAND_WRITE_DSFID, 0x44)));
+    MUST(record[EK_CARD_DSFID] == 0x44);
+    MUST(success(SAY(0x02, EK_COMMAND_LOCK_DSFID)));
+    MUST(record[EK_CARD_DSFID_LOCKED] == 1 && ek_card_dsfid_locked(record));
+    MUST(error(SAY(0x02, EK_COMMAND_LOCK_DSFID), EK_ERROR_RELOCK));
+
+    MUST(error(SAY(0x02, 0x24, 0), EK_ERROR_COMMAND));
+    MUST(error(SAY(0x02, EK_COMMAND_READ_SINGLE_BLOCK), EK_ERROR_LENGTH));
+    MUST(error(SAY(EK_FLAG_OPTION, EK_COMMAND_RESET_TO_READY),
+               EK_ERROR_OPTION));
+    MUST(error(SAY(0x02, EK_COMMAND_READ_SINGLE_BLOCK, BLOCKS),
+               EK_ERROR_BLOCK));
+    MUST(error(SAY(0x02, EK_COMMAND_LOCK_BLOCK, 2), EK_ERROR_RELOCK));
+    MUST(error(SAY(0x02, EK_COMMAND_WRITE_SINGLE_BLOCK, 2, 0, 0, 0),
+               EK_ERROR_LOCKED));
+}
+
+/* With Option the answer is held, and a mark releases it. */
+static void held(void)
+{
+    new_card();
+    locks[1] = 1;
+    MUST(SAY(EK_FLAG_OPTION, EK_COMMAND_WRITE_AFI, 0x30) == 0);
+    MUST(record[EK_CARD_HELD] == EK_HELD_SUCCESS);
+    MUST(success(mark()));
+    MUST(record[EK_CARD_HELD] == EK_HELD_NONE);
+    MUST(SAY(EK_FLAG_OPTION, EK_COMMAND_LOCK_BLOCK) == 0);
+    MUST(ek_card_held(record) == EK_ERROR_LENGTH);
+    MUST(error(mark(), EK_ERROR_LENGTH));
+    MUST(SAY(EK_FLAG_OPTION, EK_COMMAND_LOCK_BLOCK, BLOCKS) == 0);
+    MUST(ek_card_held(record) == EK_ERROR_BLOCK);
+    MUST(SAY(EK_FLAG_OPTION, EK_COMMAND_LOCK_BLOCK, 1) == 0);
+    MUST(ek_card_held(record) == EK_ERROR_RELOCK);
+    MUST(SAY(EK_FLAG_OPTION, EK_COMMAND_WRITE_SINGLE_BLOCK, 1, 0, 0, 0) == 0);
+    MUST(ek_card_held(record) == EK_ERROR_LOCKED);
+    MUST(error(mark(), EK_ERROR_LOCKED));
+    for (unsigned b = 0; b < 256; b++) {
+        bool good = b == EK_HELD_NONE || b == EK_HELD_SUCCESS ||
+                    b == EK_ERROR_LENGTH || b == EK_ERROR_BLOCK ||
+                    b == EK_ERROR_RELOCK || b == EK_ERROR_LOCKED;
+        record[EK_CARD_HELD] = (uint8_t)b;
+        MUST((mark() == EK_REFUSED_CARD) == !good);
+    }
+}
+
+/* The reserved bytes are left as found; the bytes beside them are not. */
+static void reserved(void)
+{
+    new_card();
+    memset(record + EK_CARD_HELD, EK_HELD_SUCCESS,
+           EK_CARD_RECORD - EK_CARD_HELD);
+    MUST(power_off() == 0);
+    MUST(record[EK_CARD_FREE - 1] == 0);
+    for (size_t i = EK_CARD_FREE; i < EK_CARD_FREE + 6; i++) {
+        MUST(record[i] == EK_HELD_SUCCESS);
+    }
+    MUST(record[EK_CARD_FREE + 6] == 0);
+    MUST(ek_card_mask(record) == 0);
+}
+
+/* All four faults at once, then one fewer each time. */
+static void orders_of_card(void)
+{
+    uint8_t before[EK_CARD_RECORD + 1];
+    const uint8_t frame[1] = {0};
+    static const int64_t order[] = {
+        EK_REFUSED_CARD, EK_REFUSED_CARD_LENGTHS, EK_REFUSED_CARD_LENGTHS,
+        EK_REFUSED_CARD_LOCK, EK_REFUSED_CARD_ROOM, 0};
+    new_card();
+    memcpy(before, record, sizeof record);
+    for (int mended = 0; mended < 6; mended++) {
+        size_t length = mended < 1 ? EK_CARD_RECORD - 1 : EK_CARD_RECORD;
+        size_t in_memory = mended < 2 ? BLOCKS * SIZE - 1 : BLOCKS * SIZE;
+        size_t in_locks = mended < 3 ? BLOCKS + 1 : BLOCKS;
+        size_t room = EK_CARD_ROOM(BLOCKS, SIZE) - (mended < 5);
+        locks[1] = mended < 4 ? 2 : 1;
+        MUST(ek_card_frame(record, length, frame, sizeof frame, memory,
+                           in_memory, locks, in_locks, answer, room) ==
+             order[mended]);
+        MUST(ek_card_mark(record, length, memory, in_memory, locks, in_locks,
+                          answer, room) == order[mended]);
+        MUST(ek_card_power_off(record, length, memory, in_memory, locks,
+                               in_locks, answer, room) == order[mended]);
+        MUST(memcmp(before, record, sizeof record) == 0);
+    }
+    MUST(ek_card_mark(record, EK_CARD_RECORD + 1, memory, BLOCKS * SIZE, locks,
+                      BLOCKS, answer, sizeof answer) == EK_REFUSED_CARD);
+}
+
+/* ---- the walk */
+
+static struct ek_walk walk;
+static uint64_t list[EK_LIST_PLACES + 1];
+static uint8_t request[EK_REQUEST_MAX];
+
+static int64_t ask(void)
+{
+    return ek_walk_ask(&walk, request, sizeof request);
+}
+
+static int64_t silence(void)
+{
+    return ek_walk_hear_silence(&walk, list, EK_LIST_PLACES);
+}
+
+static int64_t clash(void)
+{
+    return ek_walk_hear_clash(&walk, list, EK_LIST_PLACES);
+}
+
+/* A card of this UID answers. */
+static int64_t reply(uint64_t uid)
+{
+    uint8_t bytes[EK_INVENTORY_ANSWER] = {0};
+    bytes[EK_INVENTORY_FLAGS] = EK_ANSWER_SUCCESS;
+    bytes[EK_INVENTORY_DSFID] = 0xD5;
+    ek_put_number(bytes + EK_INVENTORY_UID, 8, uid);
+    MUST(ek_seal(bytes, sizeof bytes, EK_INVENTORY_CHECK) ==
+         EK_INVENTORY_ANSWER);
+    return ek_walk_hear_bytes(&walk, bytes, sizeof bytes, list, EK_LIST_PLACES);
+}
+
+/* Every field of a walk, through a clash, its opening, and the end. */
+static void fields(void)
+{
+    MUST(sizeof walk == 48);
+    memset(&walk, 0xFF, sizeof walk);
+    ek_walk_start(&walk, EK_WALK_NO_FAMILY);
+    MUST(walk.mask == 0 && walk.rounds == 1 && walk.level == 0);
+    MUST(walk.family == EK_WALK_NO_FAMILY && walk.slot == 0 && walk.count == 0);
+    MUST(walk.ending == EK_WALK_RUNNING);
+    MUST(ask() == 5 && request[0] == (0x02 | EK_FLAG_INVENTORY));
+    MUST(request[1] == EK_COMMAND_INVENTORY && request[2] == 0);
+    MUST(silence() == 0 && walk.slot == 1);
+    MUST(ask() == EK_SEND_MARK);
+    MUST(reply(0x11) == 0 && walk.count == 1 && list[0] == 0x11);
+    MUST(clash() == 0 && walk.marks[0] == 1u << 2);
+    while (walk.slot != 0) {
+        MUST(walk.rounds == 1 && silence() == 0);
+    }
+    MUST(walk.rounds == 2 && walk.level == 1 && walk.mask == 2);
+    MUST(walk.marks[0] == 0);
+    MUST(ask() == 6 && request[2] == 4 && request[3] == 2);
+    while (walk.ending == EK_WALK_RUNNING) {
+        MUST(walk.rounds == 2 && silence() == 0);
+    }
+    MUST(walk.ending == EK_WALK_COMPLETE && walk.slot == 15);
+    MUST(ask() == EK_SEND_NOTHING);
+}
+
+static void families(void)
+{
+    ek_walk_start(&walk, EK_WALK_NO_FAMILY - 1);
+    MUST(walk.family == 0xFF && ask() == 6);
+    MUST(request[0] == (0x02 | EK_FLAG_INVENTORY | EK_FLAG_AFI));
+    MUST(request[2] == 0xFF && request[3] == 0);
+    ek_walk_start(&walk, EK_WALK_NO_FAMILY);
+    MUST(ask() == 5);
+}
+
+/* The longest request, and a clash at its level. */
+static void deepest(void)
+{
+    ek_walk_start(&walk, 0x30);
+    walk.level = 15;
+    walk.mask = UID % (UINT64_C(1) << 60);
+    walk.rounds = 16;
+    MUST(ek_walk_ask(&walk, request, EK_REQUEST_MAX - 1) == EK_REFUSED_ROOM);
+    MUST(ask() == EK_REQUEST_MAX);
+    MUST(request[3] == 60 && ek_get_number(request + 4, 8) == walk.mask);
+    MUST(clash() == 0 && walk.ending == EK_WALK_TWINS);
+}
+
+static void full(void)
+{
+    ek_walk_start(&walk, EK_WALK_NO_FAMILY);
+    list[EK_LIST_PLACES] = UID;
+    walk.count = EK_LIST_PLACES - 1;
+    MUST(reply(0x10) == 0 && walk.ending == EK_WALK_RUNNING);
+    MUST(walk.count == EK_LIST_PLACES && list[EK_LIST_PLACES - 1] == 0x10);
+    MUST(reply(0x21) == 0 && walk.ending == EK_WALK_FULL);
+    MUST(walk.count == EK_LIST_PLACES && list[EK_LIST_PLACES] == UID);
+    walk.count = EK_LIST_PLACES + 1;
+    MUST(ask() == EK_REFUSED_WALK);
+}
+
+/* A clash waits, and the last round is over. */
+static void overrun(void)
+{
+    ek_walk_start(&walk, EK_WALK_NO_FAMILY);
+    walk.marks[0] = 1;
+    walk.slot = 15;
+    walk.rounds = EK_WALK_ROUNDS_MAX - 1;
+    MUST(silence() == 0 && walk.rounds == EK_WALK_ROUNDS_MAX);
+    MUST(walk.level == 1 && walk.ending == EK_WALK_RUNNING);
+    walk.marks[1] = 1;
+    walk.slot = 15;
+    MUST(silence() == 0 && walk.ending == EK_WALK_OVERRUN);
+    MUST(walk.rounds == EK_WALK_ROUNDS_MAX && ask() == EK_SEND_NOTHING);
+    walk.rounds = EK_WALK_ROUNDS_MAX + 1;
+    MUST(ask() == EK_REFUSED_WALK);
+}
+
+/* Whether a record changed so is refused, asked and heard. */
+static bool no_walk(struct ek_walk wrong)
+{
+    struct ek_walk before = wrong;
+    walk = wrong;
+    return ask() == EK_REFUSED_WALK && silence() == EK_REFUSED_WALK &&
+           clash() == EK_REFUSED_WALK && reply(UID) == EK_REFUSED_WALK &&
+           memcmp(&walk, &before, sizeof walk) == 0;
+}
+
+static void orders_of_walk(void)
+{
+    struct ek_walk good, wrong;
+    const uint8_t bytes[1] = {0};
+    ek_walk_start(&good, EK_WALK_NO_FAMILY);
+    good.level = 14;
+    wrong = good;
+    wrong.level = 16;
+    MUST(no_walk(wrong));
+    wrong = good;
+    wrong.slot = 16;
+    MUST(no_walk(wrong));
+    wrong = good;
+    wrong.rounds = 0;
+    MUST(no_walk(wrong));
+    wrong = good;
+    wrong.mask = UINT64_C(1) << 56;
+    MUST(no_walk(wrong));
+    wrong = good;
+    wrong.marks[15] = 1;
+    MUST(no_walk(wrong));
+    good.marks[14] = 1;
+    MUST(!no_walk(good));
+
+    /* 10, 6, 5 to hear; 10, 8 to ask. */
+    walk = good;
+    walk.slot = 16;
+    walk.ending = EK_WALK_COMPLETE;
+    for (int mended = 0; mended < 4; mended++) {
+        static const int64_t order[] = {EK_REFUSED_WALK, EK_REFUSED_ENDED,
+                                        EK_REFUSED_LIST, 0};
+        size_t places = mended < 3 ? EK_LIST_PLACES - 1 : EK_LIST_PLACES;
+        walk.slot = mended < 1 ? 16 : 0;
+        walk.ending = mended < 2 ? EK_WALK_OVERRUN : EK_WALK_RUNNING;
+        MUST(ek_walk_hear_silence(&walk, list, places) == order[mended]);
+        walk.slot = mended < 1 ? 16 : 0;
+        MUST(ek_walk_hear_clash(&walk, list, places) == order[mended]);
+        walk.slot = mended < 1 ? 16 : 0;
+        MUST(ek_walk_hear_bytes(&walk, bytes, 1, list, places) ==
+             order[mended]);
+    }
+    walk = good;
+    walk.slot = 16;
+    MUST(ek_walk_ask(&walk, request, 0) == EK_REFUSED_WALK);
+    walk.slot = 0;
+    MUST(ek_walk_ask(&walk, request, 0) == EK_REFUSED_ROOM);
+    walk.slot = 1;
+    MUST(ek_walk_ask(&walk, request, 0) == EK_SEND_MARK);
+}
+
+int main(void)
+{
+    version();
+    tracks();
+    orders_of_tracks();
+    shown();
+    shapes();
+    fresh();
+    modes();
+    sequence();
+    commands();
+    held();
+    reserved();
+    orders_of_card();
+    fields();
+    families();
+    deepest();
+    full();
+    overrun();
+    orders_of_walk();
+    return 0;
+}

@@ -1,0 +1,212 @@
+/*
+ * How much stack the calls take. Each call runs on a stack of its own that was
+ * painted before; the lowest byte that has changed tells how deep it went. The
+ * greatest depth of all calls is printed, in bytes.
+ */
+#define _XOPEN_SOURCE 700
+#include <stdio.h>
+#include <stdlib.h>
+#include <string.h>
+#include <ucontext.h>
+
+#include "espenknoten.h"
+
+#define STACK 16384
+#define PAINT 0xA5
+
+static uint8_t stack[STACK];
+static const uint8_t *entered; /* where the call's caller stands on it */
+static ucontext_t outside, inside;
+static void (*call)(void);
+
+static uint8_t record[EK_CARD_RECORD];
+static uint8_t memory[EK_CARD_BLOCKS_MAX * EK_CARD_SIZE_MAX];
+static uint8_t locks[EK_CARD_BLOCKS_MAX];
+static uint8_t answer[EK_CARD_ROOM(EK_CARD_BLOCKS_MAX, EK_CARD_SIZE_MAX)];
+static uint8_t frame[EK_FRAME_MAX];
+static size_t length;
+static uint8_t coding;
+static uint8_t track[EK_TRACK_MAX];
+static struct ek_walk walk;
+static uint64_t list[EK_LIST_PLACES];
+static uint8_t request[EK_REQUEST_MAX];
+static int64_t back;
+
+static void enter(void)
+{
+    volatile uint8_t here = 0;
+    entered = (const uint8_t *)&here;
+    call();
+}
+
+/* The depth of a call, from the frame of its caller on. */
+static size_t depth(void (*what)(void))
+{
+    size_t untouched = 0;
+    call = what;
+    memset(stack, PAINT, sizeof stack);
+    if (getcontext(&inside) != 0) {
+        exit(1);
+    }
+    inside.uc_stack.ss_sp = stack;
+    inside.uc_stack.ss_size = sizeof stack;
+    inside.uc_link = &outside;
+    makecontext(&inside, enter, 0);
+    if (swapcontext(&outside, &inside) != 0) {
+        exit(1);
+    }
+    while (untouched < sizeof stack && stack[untouched] == PAINT) {
+        untouched++;
+    }
+    return (size_t)(entered - stack) - untouched;
+}
+
+static void version(void) { back = ek_version(); }
+static void check(void) { back = ek_check(frame, length); }
+static void is_sound(void) { back = ek_is_sound(frame, length); }
+static void seal(void) { back = ek_seal(frame, sizeof frame, length); }
+
+static void code(void)
+{
+    back = ek_code(frame, length, coding, track, sizeof track);
+}
+
+static void decode(void)
+{
+    back = ek_decode(track, (size_t)back, frame, sizeof frame);
+}
+
+static void card_frame(void)
+{
+    back = ek_card_frame(record, sizeof record, frame, length, memory,
+                         sizeof memory, locks, sizeof locks, answer,
+                         sizeof answer);
+}
+
+static void card_mark(void)
+{
+    back = ek_card_mark(record, sizeof record, memory, sizeof memory, locks,
+                        sizeof locks, answer, sizeof answer);
+}
+
+static void card_power_off(void)
+{
+    back = ek_card_power_off(record, sizeof record, memory, sizeof memory,
+                             locks, sizeof locks, answer, sizeof answer);
+}
+
+static void walk_start(void) { ek_walk_start(&walk, EK_WALK_NO_FAMILY); }
+
+static void walk_ask(void)
+{
+    back = ek_walk_ask(&walk, request, sizeof request);
+}
+
+static void walk_hear_silence(void)
+{
+    back = ek_walk_hear_silence(&walk, list, EK_LIST_PLACES);
+}
+
+static void walk_hear_clash(void)
+{
+    back = ek_walk_hear_clash(&walk, list, EK_LIST_PLACES);
+}
+
+static void walk_hear_bytes(void)
+{
+    back = ek_walk_hear_bytes(&walk, frame, length, list, EK_LIST_PLACES);
+}
+
+static size_t most;
+
+static void measure(void (*what)(void))
+{
+    size_t found = depth(what);
+    if (back < 0) {
+        fprintf(stderr, "stack: a call was refused: %d\n", (int)back);
+        exit(1);
+    }
+    if (found > most) {
+        most = found;
+    }
+}
+
+/* Frames of all lengths, and their tracks in both codings. */
+static void tracks(void)
+{
+    for (size_t n = 0; n + 2 <= EK_FRAME_MAX; n++) {
+        for (coding = EK_ONE_OF_4; coding <= EK_ONE_OF_256; coding++) {
+            length = n;
+            measure(check);
+            measure(seal);
+            length = n + 2;
+            measure(is_sound);
+            measure(code);
+            measure(decode);
+        }
+    }
+}
+
+/* Every command, plain, selected, addressed and with Option, with bodies of
+ * none to two bytes and that of a write; and inventories with and without a
+ * family, in one slot and in sixteen. After each a mark and a power off. */
+static void card(void)
+{
+    static const uint8_t flags[] = {
+        0, EK_FLAG_SELECT, EK_FLAG_ADDRESS, EK_FLAG_OPTION,
+        EK_FLAG_ADDRESS | EK_FLAG_OPTION, EK_FLAG_INVENTORY,
+        EK_FLAG_INVENTORY | EK_FLAG_AFI, EK_FLAG_INVENTORY | EK_FLAG_ONE_SLOT};
+    static const size_t bodies[] = {0, 1, 2, 1 + EK_CARD_SIZE_MAX};
+    for (size_t f = 0; f < sizeof flags; f++) {
+        for (unsigned command = 0; command < 0x30; command++) {
+            for (size_t b = 0; b < sizeof bodies / sizeof *bodies; b++) {
+                bool addressed = (flags[f] & EK_FLAG_INVENTORY) == 0 &&
+                                 (flags[f] & EK_FLAG_ADDRESS) != 0;
+                ek_card_new(record, 0, EK_CARD_BLOCKS_MAX, EK_CARD_SIZE_MAX);
+                memset(frame, 0, sizeof frame);
+                frame[0] = flags[f];
+                frame[1] = (uint8_t)command;
+                length = 2 + bodies[b] + (addressed ? 8 : 0);
+                back = ek_seal(frame, sizeof frame, length);
+                length = (size_t)back;
+                measure(card_frame);
+                measure(card_mark);
+                measure(card_power_off);
+            }
+        }
+    }
+}
+
+/* A clash in the slot of each level down to twins, a clean reply, silence. */
+static void walks(void)
+{
+    measure(walk_start);
+    while (walk.ending == EK_WALK_RUNNING) {
+        measure(walk_ask);
+        if (walk.slot == 0) {
+            measure(walk_hear_clash);
+        } else if (walk.slot == 1) {
+            memset(frame, 0, sizeof frame);
+            ek_put_number(frame + EK_INVENTORY_UID, 8,
+                          walk.mask + (UINT64_C(1) << (4 * walk.level)));
+            back = ek_seal(frame, sizeof frame, EK_INVENTORY_CHECK);
+            length = (size_t)back;
+            measure(walk_hear_bytes);
+        } else {
+            measure(walk_hear_silence);
+        }
+    }
+    if (walk.ending != EK_WALK_TWINS || walk.count != 15) {
+        exit(1);
+    }
+}
+
+int main(void)
+{
+    measure(version);
+    tracks();
+    card();
+    walks();
+    printf("%u\n", (unsigned)most);
+    return 0;
+}
