@@ -2,66 +2,87 @@
 -- The definitions stand in the folders specs/ of the crates, each under the sentence of the rules page that it says. That every function
 -- meets its promise, never leaves what it was lent, and always returns, is what the gate's last line says of the crates themselves.
 use mathlib.Core.Path.{_≡_}
-use mathlib.Core.Bool.{true, false}
+use mathlib.Core.Bool.{true, false, _&&_}
 use mathlib.Core.List.{List}
-use Prim.Native.Nat.{ℕ, _+_, _-_, _≤_, _<_}
+use Prim.Native.Nat.{ℕ, _+_, _-_, _*_, _%_, _^_, _≤_, _<_}
+use lib.Dec.{eqb}
+use lib.IntN.{ℤ, pos}
 use lib.ListN.{length, take, getD}
+use Rattle.lent.specs.Bytes.{Bytes}
 use Rattle.lent.specs.Lent.{over}
 use Rattle.crc.specs.Check.{sealed, isSealed}
+use Rattle.crc.specs.Examples.{Checks}
 use Rattle.crc.proofs.Seal.{is-sealed-of-sealed, sealed-of-is-sealed}
-use Rattle.crc.proofs.Examples.{Checks, checks}
-use Rattle.frames.specs.Flags.{flagsOf}
-use Rattle.frames.specs.Frame.{shortest, longest, isSound}
-use Rattle.frames.proofs.Sound.{Sound, sound-of-sealed, sealed-of-sound}
+use Rattle.crc.proofs.Examples.{checks}
+use Rattle.frames.specs.Flags.{flagsOf, asksInventory}
+use Rattle.frames.specs.Frame.{shortest, longest, isSound, Sound}
+use Rattle.frames.proofs.Sound.{sound-of-sealed, sealed-of-sound}
 use Rattle.hex.specs.Rows.{isRow, rowBytes, rowText}
 use Rattle.hex.proofs.RoundTrip.{row-of-bytes, bytes-of-row, row-of-its-bytes}
 use Rattle.slots.specs.Fits.{fitsSlot}
 use Rattle.tracks.specs.Track.{trackOf, slotMark}
+use Rattle.tracks.specs.Coder.{Codes}
 use Rattle.tracks.specs.Decoder.{told, Decodes}
-use Rattle.tracks.proofs.RoundTrip.{Bytes}
-use Rattle.tracks.proofs.Inverse.{Reads, decode-of-code, decode-reads, mark-no-track}
-use Rattle.tracks.proofs.Examples.{Tracks, tracks}
+use Rattle.tracks.specs.Examples.{Tracks}
+use Rattle.tracks.proofs.Different.{mark-no-track}
+use Rattle.tracks.proofs.Inverse.{decode-of-code, decode-answers}
+use Rattle.tracks.proofs.Examples.{tracks}
 use Rattle.card.specs.declared.Card.{Card}
 use Rattle.card.specs.Record.{cleared}
-use Rattle.requests.specs.Request.{silent}
 use Rattle.card.specs.Frame.{heardInventory}
-use Rattle.requests.specs.Frame.{leaving, decided}
-use Rattle.requests.proofs.Rules.{unsound-silent, inventory-frame}
-use Rattle.requests.proofs.Examples.{BlockReads, block-reads}
-use Rattle.card.proofs.Examples.{Cards, cards}
+use Rattle.record.specs.Fits.{Fits}
 use Rattle.record.specs.Record.{cardRead, writeLeaves}
-use Rattle.record.proofs.RoundTrip.{Fits, read-of-write}
-use Rattle.play.proofs.Deeds.{DeedFits}
-use Rattle.play.proofs.Turns.{decided-fits}
-use Rattle.play.proofs.Examples.{Information, information-shown}
+use Rattle.record.proofs.RoundTrip.{read-of-write}
+use Rattle.requests.specs.Frame.{leaving, decided}
+use Rattle.requests.proofs.Rules.{inventory-frame}
+use Rattle.play.specs.Refusal.{refusal, Accepted}
+use Rattle.play.specs.Fits.{DeedFits}
+use Rattle.play.specs.Events.{Outcome, unserved, frameEvent, markEvent, offEvent, AcceptedNext}
+use Rattle.play.specs.Examples.{CardExamples}
+use Rattle.play.proofs.Deeds.{decided-fits}
+use Rattle.play.proofs.Outcomes.{frame-refused, mark-refused, off-refused, frame-damaged}
+use Rattle.play.proofs.Stays.{frame-stays, mark-stays, off-stays}
+use Rattle.play.proofs.Examples.{card-examples}
+use Rattle.board.specs.Calls.{frameCall, markCall, offCall}
+use Rattle.board.proofs.ReadBack.{frame-reads-back, mark-reads-back, off-reads-back, frame-leaves-bytes, mark-leaves-bytes, off-leaves-bytes}
 use Rattle.walk.specs.declared.Walk.{Walk}
 use Rattle.walk.specs.declared.Kind.{Kind}
 use Rattle.walk.specs.declared.Slot.the-variants.{Clean}
-use Rattle.walk.specs.Record.{maskLength}
+use Rattle.walk.specs.Record.{maskLength, started, isRunning}
 use Rattle.walk.specs.Hear.{judged}
-use Rattle.walk.proofs.Examples.{Walks, walks}
-use Rattle.field.specs.Replies.{anyReplies}
-use Rattle.field.specs.Demand.{demand3}
+use Rattle.walk.specs.Examples.{Walks}
+use Rattle.walk.proofs.Examples.{walks}
+use Rattle.field.specs.Field.{Tag, Arrival, Obeys, answers, answering}
+use Rattle.field.specs.Played.{playedFor, fresh}
+use Rattle.field.specs.Answering.{isHeard, heardOnce}
+use Rattle.field.specs.Replies.{heardAll, Holds, anyReplies}
+use Rattle.field.specs.Demand.{AllObey, Demand3, demand3, roundsCounted}
+use Rattle.field.specs.Examples.{FieldOfThree}
 use Rattle.field.proofs.AnyWalk.{judged-fits, walk-of-any-replies}
-use Rattle.field.proofs.Demand3.{walk-of-a-field}
-use Rattle.field.proofs.Examples.{FieldOfThree, field-of-three}
-use Rattle.row.specs.Play.{ended}
+use Rattle.field.proofs.Demand3.{walk-of-a-field, rounds-of-a-field}
+use Rattle.field.proofs.Answering.{card-heard-once}
+use Rattle.field.proofs.Examples.{field-of-three}
+use Rattle.row.specs.Row.{cardsOf}
+use Rattle.row.specs.Row as row
+use Rattle.row.specs.Play.{freshDesk, ended}
 use Rattle.row.specs.Meaning.{Meaning, meaning}
 use Rattle.row.proofs.Meaning.{bench-meets-demand3}
 use Rattle.lines.specs.Input.{badLine, uids}
 use Rattle.lines.specs.Lines.{freshLines, readFrom}
-use Rattle.lines.proofs.Reading as reading
+use Rattle.lines.specs.Lines as reading
 use Rattle.lines.proofs.Reading.{reads-input}
 use Rattle.rack.specs.Output.{report}
 use Rattle.rack.specs.Bench.{printed}
+use Rattle.rack.specs.Examples.{Bench}
 use Rattle.rack.proofs.InputMeaning.{printed-meets-demand3}
 use Rattle.rack.proofs.Start.{printed-of-start}
-use Rattle.rack.proofs.Examples.{Bench, bench}
+use Rattle.rack.proofs.Examples.{bench}
 use Rattle.picture.specs.Drawn.{pictured}
-use Rattle.picture.specs.Meaning.{signs}
+use Rattle.picture.specs.Meaning.{Signs, signs}
+use Rattle.picture.specs.Examples.{ThreeDrawn}
 use Rattle.picture.proofs.Signs.{every-sign}
 use Rattle.picture.proofs.Start.{pictured-of-start}
-use Rattle.picture.proofs.Examples.{ThreeDrawn, picture-of-three}
+use Rattle.picture.proofs.Examples.{picture-of-three}
 
 -- ---- The check
 
@@ -81,15 +102,16 @@ soundness-only = sealed-of-sound
 
 -- ---- Pulse tracks (demand 2: "frame to track and track to frame")
 
--- Decoding what was coded gives the frame and its coding back, for every frame of 0 to 64 bytes.
-decoding-what-was-coded : (coding : ℕ) (frame found : List ℕ) → coding < 2 → Bytes frame → length frame ≤ longest → longest ≤ length found
-    → Decodes (trackOf coding frame) found (told coding (length frame)) (over frame found)
+-- Decoding what was coded gives the frame and its coding back: wherever the coder answers a length n, the decoder reads the first n bytes that
+-- it left as that frame in that coding.
+decoding-what-was-coded : {frame : List ℕ} {coding : ℕ} {room : List ℕ} {n : ℕ} {track : List ℕ} → Codes frame coding room (pos n) track
+    → {found : List ℕ} {r : ℤ} {left : List ℕ} → Bytes frame → longest ≤ length found → Decodes (take n track) found r left
+    → (r ≡ told coding (length frame)) × (left ≡ over frame found)
 decoding-what-was-coded = decode-of-code
 
--- Whatever bytes are read, they are, to the byte, what the coder makes of the frame that is given back, or the slot mark; where they are
--- neither, the answer is number 9 and nothing changes.
-reading-anything : (t found : List ℕ) → longest ≤ length found → Reads t found
-reading-anything = decode-reads
+-- Whatever bytes are read, the decoder has an answer: the frame whose track they are, the slot mark, or number 8 or 9.
+reading-anything : (t found : List ℕ) → (r : ℤ) × (left : List ℕ) × Decodes t found r left
+reading-anything = decode-answers
 
 -- The slot mark is no frame's track.
 mark-alone : (coding : ℕ) (frame : List ℕ) → trackOf coding frame ≡ slotMark → ⊥
@@ -97,27 +119,83 @@ mark-alone = mark-no-track
 
 -- ---- The card (demand 2: "request to answer, next state and memory")
 
--- A frame that is not sound gets silence, and the next state is fixed: sequence ended, held answer dropped.
-a-damaged-frame : (c : Card) (locks frame : List ℕ) → isSound frame ≡ false → decided c locks frame ≡ silent (cleared c)
-a-damaged-frame = unsound-silent
+-- A call that is refused changes nothing: record, memory, lock bytes and room stay, and its number is told (demand 1).
+a-refused-frame : (c : Card) (frame memory locks found : List ℕ) → (Accepted c memory locks found → ⊥)
+    → frameEvent c frame memory locks found ≡ unserved c memory locks found (refusal c (length memory) locks (length found))
+a-refused-frame = frame-refused
+
+a-refused-mark : (c : Card) (memory locks found : List ℕ) → (Accepted c memory locks found → ⊥)
+    → markEvent c memory locks found ≡ unserved c memory locks found (refusal c (length memory) locks (length found))
+a-refused-mark = mark-refused
+
+a-refused-power-off : (c : Card) (memory locks found : List ℕ) → (Accepted c memory locks found → ⊥)
+    → offEvent c memory locks found ≡ unserved c memory locks found (refusal c (length memory) locks (length found))
+a-refused-power-off = off-refused
+
+-- A frame that is not sound gets silence, and the next state is fixed: sequence ended, held answer dropped, all else as found (demand 1).
+a-damaged-frame : (c : Card) (frame memory locks found : List ℕ) → Accepted c memory locks found → isSound frame ≡ false
+    → _≡_ {A = Outcome} (frameEvent c frame memory locks found)
+    (record { card = cleared c; memory = memory; locks = locks; answer = found; number = 0; told = 0 })
+a-damaged-frame = frame-damaged
+
+-- A card that is served is served again: whatever event it hears, numbers 1 to 4 accept what is left.
+served-after-a-frame : (c : Card) (frame memory locks found : List ℕ) → Accepted c memory locks found → AcceptedNext (frameEvent c frame memory locks found)
+served-after-a-frame = frame-stays
+
+served-after-a-mark : (c : Card) (memory locks found : List ℕ) → Accepted c memory locks found → AcceptedNext (markEvent c memory locks found)
+served-after-a-mark = mark-stays
+
+served-after-power-off : (c : Card) (memory locks found : List ℕ) → Accepted c memory locks found → AcceptedNext (offEvent c memory locks found)
+served-after-power-off = off-stays
 
 -- What an inventory frame does to a card is what it does to the record alone.
-an-inventory-frame : (c : Card) (locks frame : List ℕ) → flagsOf (getD frame 0 0) .b3 ≡ true → decided c locks frame ≡ leaving (heardInventory c frame)
+an-inventory-frame : (c : Card) (locks frame : List ℕ) → asksInventory (flagsOf (getD frame 0 0)) ≡ true
+    → decided c locks frame ≡ leaving (heardInventory c frame)
 an-inventory-frame = inventory-frame
 
--- Whatever frame arrives, what is decided stays within the card's blocks and within the frame, and the shape stays.
+-- Whatever frame arrives, what is decided stays within the card's blocks and within the frame; shape, UID and IC reference stay.
 within-the-card : (card : Card) (locks frame : List ℕ) → DeedFits card frame (decided card locks frame)
 within-the-card = decided-fits
+
+-- ---- The card from C
 
 -- A card that is written into its record of forty bytes is read back from it.
 reading-what-was-written : (c : Card) (found : List ℕ) → length found ≡ 40 → Fits c → cardRead (writeLeaves c found) ≡ c
 reading-what-was-written = read-of-write
 
+-- After a call from C the record's bytes mean the card of the event's outcome, so that a call after a call is the card's event after its event.
+reading-after-a-frame : (bytes frame memory locks found : List ℕ) → Bytes bytes
+    → cardRead (frameCall bytes frame memory locks found .bytes) ≡ frameEvent (cardRead bytes) frame memory locks found .card
+reading-after-a-frame = frame-reads-back
+
+reading-after-a-mark : (bytes memory locks found : List ℕ) → Bytes bytes
+    → cardRead (markCall bytes memory locks found .bytes) ≡ markEvent (cardRead bytes) memory locks found .card
+reading-after-a-mark = mark-reads-back
+
+reading-after-power-off : (bytes memory locks found : List ℕ) → Bytes bytes
+    → cardRead (offCall bytes memory locks found .bytes) ≡ offEvent (cardRead bytes) memory locks found .card
+reading-after-power-off = off-reads-back
+
+-- And they are bytes again, as many.
+bytes-after-a-frame : (bytes frame memory locks found : List ℕ) → Bytes bytes → Bytes frame
+    → Bytes (frameCall bytes frame memory locks found .bytes) × (length (frameCall bytes frame memory locks found .bytes) ≡ length bytes)
+bytes-after-a-frame = frame-leaves-bytes
+
+bytes-after-a-mark : (bytes memory locks found : List ℕ) → Bytes bytes
+    → Bytes (markCall bytes memory locks found .bytes) × (length (markCall bytes memory locks found .bytes) ≡ length bytes)
+bytes-after-a-mark = mark-leaves-bytes
+
+bytes-after-power-off : (bytes memory locks found : List ℕ) → Bytes bytes
+    → Bytes (offCall bytes memory locks found .bytes) × (length (offCall bytes memory locks found .bytes) ≡ length bytes)
+bytes-after-power-off = off-leaves-bytes
+
 -- ---- The walk
 
--- Whatever a walk hears from its start on, true or false: its record is always one that number 10 accepts, no UID is listed twice, and it has
--- ended after 16 × 481 slots.
-walking-over-any-replies : anyReplies
+-- Whatever a walk hears from its start on, true or false (`Holds`): its record is always one that number 10 accepts, no UID is listed twice, while
+-- it runs its round count is that of the slots heard, and it has ended after 16 × 481 slots.
+walking-over-any-replies : (family : ℕ) (list : List ℕ) (arrivals : List Arrival) → 64 ≤ length list
+    → Holds (length arrivals) (heardAll arrivals (record { walk = started family; list = list }))
+unfolding anyReplies
 walking-over-any-replies = walk-of-any-replies
 
 -- A UID that is taken for clean fits the mask and the slot that it was heard in.
@@ -127,19 +205,36 @@ clean-fits = judged-fits
 
 -- ---- Demand 3
 
--- Any cards whose records, memory, lock bytes and room are not refused, in any mode and with anything held or running; any family; a list of 64
--- places or more. Each thing that a fresh walk sends reaches every card, one reply arrives whole, two or more arrive as a clash. Then the walk
--- ends within 16 × 481 slots; it ends complete exactly if at most 64 cards answer its family and no two of these share a UID; the list then holds
--- each of them once; the round count is one more than the number of tails of 1 to 15 digits that two or more of them share; otherwise it ends
--- twins, or, above 64, twins or full; and every card keeps all but its sequence and its held answer.
--- The statement is crates/field/specs/Demand.antt; the field stands in Field.antt and Played.antt beside it, the tails in crates/tails/specs.
-demand-three : demand3
+-- Any cards whose records, memory, lock bytes and room are not refused (`AllObey`), in any mode and with anything held or running; any family; a list
+-- of 64 places or more. Each thing that a fresh walk sends reaches every card, one reply arrives whole, two or more arrive as a clash. Then the walk
+-- ends within 16 × 481 slots. It ends complete exactly if at most 64 cards answer its family and no two of these share a UID; the list then holds
+-- each of them once and the walk counts as many; the round count is one more than the number of tails of 1 to 15 digits that two or more of them
+-- share. Otherwise it ends twins, and then two that answer share a UID, or full, and then more than 64 answer. Every card keeps all but its sequence
+-- and its held answer. All this is `Demand3`, crates/field/specs/Demand.antt with Found.antt beside it.
+demand-three : (family : ℕ) (tags : List Tag) (list room : List ℕ) → AllObey tags → 64 ≤ length list → 14 ≤ length room
+    → Demand3 family tags (answering family tags) (playedFor (16 * 481) (fresh family list room tags))
+unfolding demand3
 demand-three = walk-of-a-field
+
+-- The round count is the count of rounds: after n slots a walk that still runs is in the round and in the slot that n gives.
+counting-rounds : (family : ℕ) (tags : List Tag) (list room : List ℕ) → AllObey tags → 64 ≤ length list → 14 ≤ length room → (n : ℕ)
+    → let w : Walk = playedFor n (fresh family list room tags) .walk in
+    isRunning w ≡ true → 16 * w .rounds + w .slot ≡ 16 + n
+unfolding roundsCounted
+counting-rounds = rounds-of-a-field
+
+-- The cards that answer a family are just those that are heard: a card in any state hears a fresh walk's request and then fifteen slot marks; it is
+-- heard in one of these sixteen slots, that of its UID's lowest digit, if it answers, else in none.
+cards-that-answer : (family : ℕ) (room : List ℕ) (t : Tag) → Obeys t → 14 ≤ length room → (s : ℕ) → s < 16
+    → isHeard family room t s ≡ (answers family (t .card) && eqb (t .card .uid % 16) s)
+unfolding heardOnce
+cards-that-answer = card-heard-once
 
 -- ---- The bench
 
 -- Demand 3 for the bench's row: what a walk that has ended over the cards of given UIDs says of these.
-the-end-of-a-walk : meaning
+the-end-of-a-walk : (us : List ℕ) → ((i : ℕ) → getD us i 0 < 2 ^ 64) → Meaning us (ended us)
+unfolding meaning
 the-end-of-a-walk = bench-meets-demand3
 
 -- Reading byte by byte finds the first wrong line of an input, or, where there is none, its UIDs.
@@ -157,7 +252,10 @@ the-start-is-enough = printed-of-start
 -- ---- The picture
 
 -- Each sign of the picture says what the walk makes of the slot, silent, clean or clash, and how many of the input's UIDs the slot calls.
-what-is-drawn : signs
+what-is-drawn : (us : List ℕ) → ((i : ℕ) → getD us i 0 < 2 ^ 64) → (n : ℕ)
+    → isRunning (row.playedFor n (record { desk = freshDesk; row = cardsOf us }) .desk .walk) ≡ true
+    → Signs us (row.playedFor n (record { desk = freshDesk; row = cardsOf us }))
+unfolding signs
 what-is-drawn = every-sign
 
 -- No input needs more to be read than its first 1,701 bytes.
@@ -186,9 +284,7 @@ one-row = row-of-its-bytes
 record Examples : Type 0 where
   of-checks : Checks
   of-tracks : Tracks
-  of-cards : Cards
-  of-reads : BlockReads
-  of-information : Information
+  of-cards : CardExamples
   of-walks : Walks
   of-three : FieldOfThree
   of-bench : Bench
@@ -198,9 +294,7 @@ examples =
     record {
       of-checks = checks;
       of-tracks = tracks;
-      of-cards = cards;
-      of-reads = block-reads;
-      of-information = information-shown;
+      of-cards = card-examples;
       of-walks = walks;
       of-three = field-of-three;
       of-bench = bench;
