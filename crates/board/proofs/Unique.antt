@@ -1,13 +1,9 @@
--- Any two results that the promise of a card's call allows are equal, in the number back and in every lent byte; and the version's. Assumes nothing.
+-- Any two results that the promise of a card's call allows are equal, in the number back and in every lent byte. Assumes nothing.
 use mathlib.Core.Path.{_≡_, sym, _∙_}
 use mathlib.Core.List.{List}
 use Prim.Native.Nat.{ℕ}
 use lib.IntN.{ℤ}
 use Rattle.board.specs.Calls.{Left, Gives}
-use Rattle.board.specs.Version.{version}
-
-pub version-unique : (r s : ℕ) → r ≡ version → s ≡ version → r ≡ s
-version-unique r s p q = p ∙ sym q
 
 -- for each of the three calls, whatever it is promised to leave
 pub gives-unique : (l : Left) (r s : ℤ) (bytes bytes′ memory memory′ locks locks′ answer answer′ : List ℕ)

@@ -18,12 +18,14 @@ use Rattle.board.specs.Calls.{Gives, frameCall, markCall, offCall}
 use Rattle.walk.specs.Record.{started}
 use Rattle.walk.specs.Hear.{hearing}
 use Rattle.walk.specs.declared.Kind.the-variants.{Bytes, Clash, Silence}
+use Rattle.board.specs.Version.{version}
 use Rattle.board.specs.Walked.{AsksInPlace, HearsInPlace}
 use Rattle.walk.specs.Ask.{asking}
 use Rattle.frames.proofs.Unique.{seal-unique}
 use Rattle.tracks.proofs.Unique.{code-unique, decode-unique}
 use Rattle.board.proofs.Unique.{gives-unique}
 use Rattle.board.proofs.UniqueWalked.{hear-in-place-unique, ask-in-place-unique}
+use Rattle.board.proofs.ek_version as ek-version
 use Rattle.board.proofs.ek_check as ek-check
 use Rattle.board.proofs.ek_is_sound as ek-is-sound
 use Rattle.board.proofs.ek_seal as ek-seal
@@ -43,6 +45,9 @@ use Rattle.theorems.proofs.Kept.{kept}
 -- 𝓤 to run: any model of the logic, as every function's own theorem has it
 module _ {M : Type 1} (𝓤 : URA M) (H : Heap 𝓤) (A : Atoms 𝓤) (mem : Memory → SProp 𝓤) (run : Routine → Fun 𝓤) where
   -- ---- board
+
+  ek-version-contract : Contract 𝓤 ek-version.ended (ek-version.clauses 𝓤 H A mem run) (λ κs a r e. r ≡ version)
+  ek-version-contract = kept 𝓤 ek-version.ended _ _ (λ κs a. (tt, id⊢ 𝓤 _)) (λ κs a g r e. id⊢ 𝓤 _) (λ κs a r s x y p q. (p ∙ sym q, refl))
 
   ek-check-contract : Contract 𝓤 ek-check.ended (ek-check.clauses 𝓤 H A mem run) (λ κs a r e. r ≡ checkOf (now (a .0)))
   ek-check-contract = kept 𝓤 ek-check.ended _ _ (λ κs a. (tt, id⊢ 𝓤 _)) (λ κs a g r e. id⊢ 𝓤 _) (λ κs a r s x y p q. (p ∙ sym q, refl))
