@@ -3,7 +3,9 @@
 use mathlib.Core.Path.{_≡_}
 use mathlib.Core.Bool.{true, _&&_, and-eq-true-iff}
 use mathlib.Core.List.{List, []}
-use Prim.Native.Nat.{ℕ}
+use Prim.Native.Nat.{ℕ, _≤_}
+use borrow.Author.Tests.{leb-true}
+use lib.Dec.{leb}
 use Rattle.card.specs.declared.Card.{Card}
 use Rattle.card.specs.declared.Sequence.{Sequence}
 use Rattle.card.specs.declared.Held.{Held}
@@ -22,6 +24,26 @@ tests-of c e =
     let first = and-eq-true-iff (shapeFits (c .blocks) (c .size)) (sequenceFits (c .sequence) && heldFits (c .held)) .0 e in
     let rest = and-eq-true-iff (sequenceFits (c .sequence)) (heldFits (c .held)) .0 (first .1) in
     record { shape = first .0; sequence = rest .0; held = rest .1 }
+
+-- the limits that the shape keeps
+pub record Shape (blocks size : ℕ) : Type 0 where
+  pub block : 1 ≤ blocks
+  pub blocks-most : blocks ≤ 256
+  pub byte : 1 ≤ size
+  pub size-most : size ≤ 32
+
+pub shape-of : (blocks size : ℕ) → shapeFits blocks size ≡ true → Shape blocks size
+unfolding shapeFits
+shape-of blocks size e =
+    let a = and-eq-true-iff (leb 1 blocks) (leb blocks 256 && (leb 1 size && leb size 32)) .0 e in
+    let b = and-eq-true-iff (leb blocks 256) (leb 1 size && leb size 32) .0 (a .1) in
+    let d = and-eq-true-iff (leb 1 size) (leb size 32) .0 (b .1) in
+    record {
+      block = leb-true 1 blocks (a .0);
+      blocks-most = leb-true blocks 256 (b .0);
+      byte = leb-true 1 size (d .0);
+      size-most = leb-true size 32 (d .1);
+    }
 
 abbrev pub IsAccepted : Card → Type 0
 IsAccepted c = isAccepted c ≡ true

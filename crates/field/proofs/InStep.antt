@@ -2,7 +2,7 @@
 -- By the card's two ways to be in step. Assumes nothing.
 use mathlib.Core.Path.{_≡_, refl, ap, _∙_}
 use mathlib.Core.Bool.{Bool, true, false, cond}
-use Prim.Native.Nat.{ℕ, suc, _^_, _≤_, _<_}
+use Prim.Native.Nat.{ℕ, _^_, _≤_, _<_}
 use native.Mathlib.Omega.{arith}
 use mathlib.Core.List.{List, [], _∷_}
 use borrow.Author.Tests.{le-leb, lt-ltb}
@@ -10,9 +10,10 @@ use lib.ListN.{length}
 use Rattle.card.specs.declared.Card.{Card}
 use Rattle.card.specs.declared.Sequence.the-variants.{Running}
 use Rattle.card.specs.Record.{sequenceFits, heldFits, isAccepted, remade, cleared, inSequence}
+use Rattle.card.proofs.Accepted.{tests-of}
 use Rattle.play.specs.Refusal.{lengthsFit, locksFit, roomFits, refusal}
 use Rattle.play.specs.Answer.{presence}
-use Rattle.play.proofs.Shape.{accepted-shape}
+use Rattle.play.proofs.Refusals.{Passes, passes-of, refusal-none}
 use Rattle.play.proofs.Room.{room-of}
 use Rattle.walk.specs.Record.{maskLength}
 use Rattle.field.specs.Field.{Tag, Obeys, answers}
@@ -22,34 +23,20 @@ use Rattle.field.proofs.Requested.{mask-length-most}
 
 -- ---- the refusals
 
-accepted-of : (b : Bool) (x : ℕ) → cond b x 1 ≡ 0 → b ≡ true
-accepted-of true x e = refl
-accepted-of false x e = absurd (omega arith)
-
-rest-of : (b : Bool) (x y : ℕ) → cond b x (suc y) ≡ 0 → x ≡ 0
-rest-of true x y e = e
-rest-of false x y e = absurd (omega arith)
-
-room-fits-of : (b : Bool) → _≡_ {A = ℕ} (cond b 0 4) 0 → b ≡ true
-room-fits-of true e = refl
-room-fits-of false e = absurd (omega arith)
-
 pub served-accepted : (c : Card) (memory : ℕ) (locks : List ℕ) (room : ℕ) → refusal c memory locks room ≡ 0 → isAccepted c ≡ true
-unfolding refusal
-served-accepted c memory locks room e = accepted-of (isAccepted c) _ e
+served-accepted c memory locks room e = passes-of c memory locks room e .accepted
 
 pub served-room : (c : Card) (memory : ℕ) (locks : List ℕ) (room : ℕ) → refusal c memory locks room ≡ 0 → 32 ≤ room
-unfolding refusal
-served-room c memory locks room e =
-    let lengths = rest-of (isAccepted c) _ 0 e in
-    let locks-fit = rest-of (lengthsFit c memory (length locks)) _ 1 lengths in
-    room-of c room (room-fits-of (roomFits c room) (rest-of (locksFit locks) _ 2 locks-fit)) .least
+served-room c memory locks room e = room-of c room (passes-of c memory locks room e .space) .least
 
 -- an accepted card of the same shape is served too
 pub served-same : (c card : Card) (memory : ℕ) (locks : List ℕ) (room : ℕ) → card .blocks ≡ c .blocks → card .size ≡ c .size → isAccepted card ≡ true
     → refusal c memory locks room ≡ 0 → refusal card memory locks room ≡ 0
-unfolding refusal lengthsFit roomFits
-served-same c card memory locks room a b accepted e = rw (accepted, a, b) (rest-of (isAccepted c) _ 0 e)
+unfolding lengthsFit roomFits
+served-same c card memory locks room a b accepted e =
+    let p : Passes c memory locks room = passes-of c memory locks room e in
+    refusal-none card memory locks room
+    (record { accepted = accepted; lengths = rw (a, b) (p .lengths); marks = p .marks; space = rw (a, b) (p .space) })
 
 -- a card of one byte, not locked, is served
 pub byte-served : (c : Card) (room : ℕ) → isAccepted c ≡ true → c .blocks ≡ 1 → c .size ≡ 1 → 32 ≤ room → refusal c 1 (0 ∷ []) room ≡ 0
@@ -82,12 +69,12 @@ step-accepted family level mask s c h g f e = go (answers family c)
     go : (b : Bool) → isAccepted (cond b (inSequence (Running s (maskLength level) mask) (cleared c)) (cleared c)) ≡ true
     go true =
         rw (
-          accepted-shape c e,
+          tests-of c e .shape,
           le-leb s 15 (omega arith),
           le-leb (maskLength level) 60 (mask-length-most level h),
           lt-ltb mask (2 ^ maskLength level) f,
         )
-    go false = rw (accepted-shape c e)
+    go false = rw (tests-of c e .shape)
 
 -- cards that are the same once cleared have the same shape
 pub cleared-blocks : (c card : Card) → cleared card ≡ cleared c → card .blocks ≡ c .blocks

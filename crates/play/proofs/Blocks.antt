@@ -14,7 +14,7 @@ use Rattle.play.specs.Answer.{blockOf, blockRead, blocksRead}
 use Rattle.lent.specs.Puts.{Puts, PutsAt}
 use Rattle.play.proofs.Copy.{length-part}
 use Rattle.play.proofs.Answers.{first-placed}
-use Rattle.play.proofs.Shape.{block-within}
+use Rattle.play.proofs.Products.{block-within}
 
 -- a block alone
 pub puts-block : (memory locks : List ℕ) (size block at : ℕ) (answer : List ℕ) → block * size + size ≤ length memory

@@ -1,4 +1,4 @@
-pub mod Shape
+pub mod Products
 pub mod Locks
 pub mod Copy
 pub mod Within

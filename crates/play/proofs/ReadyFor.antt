@@ -21,7 +21,6 @@ use Rattle.card.proofs.Changes.{marked-keeps}
 use Rattle.play.specs.Refusal.{lengthsFit, roomFits, refusal}
 use Rattle.play.specs.Fits.{effectFits, replyFits, Kept, DeedFits}
 use Rattle.play.specs.Steps.{isBrief, Ready, DeedReady}
-use Rattle.play.proofs.Shape.{accepted-shape}
 use Rattle.play.proofs.Brief.{brief-fits}
 use Rattle.play.proofs.Kept.{self-kept, kept-changes}
 use Rattle.play.proofs.Refusals.{Passes, passes-of}
@@ -34,7 +33,7 @@ ready-of c memory locks room e =
     let p : Passes c memory locks room = passes-of c memory locks room e in
     let both = and-eq-true-iff (eqb memory (c .blocks * c .size)) (eqb (length locks) (c .blocks)) .0 (p .lengths) in
     record {
-      shape = accepted-shape c (p .accepted);
+      shape = tests-of c (p .accepted) .shape;
       stored = eqb-true memory (c .blocks * c .size) (both .0);
       marks = eqb-true (length locks) (c .blocks) (both .1);
       fits = p .space;

@@ -12,7 +12,7 @@ use Rattle.requests.specs.declared.Effect.the-variants.{Write, Lock}
 use Rattle.card.specs.declared.Reply.{Reply}
 use Rattle.card.specs.declared.Reply.the-variants.{Blocks, Status}
 use Rattle.play.specs.Fits.{effectFits, replyFits}
-use Rattle.play.proofs.Shape.{block-within}
+use Rattle.play.proofs.Products.{block-within}
 
 -- a write has its block in memory and its data in the frame
 pub record Written (c : Card) (frame : List ℕ) (block place : ℕ) : Type 0 where

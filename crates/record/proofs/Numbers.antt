@@ -16,23 +16,13 @@ use Rattle.card.specs.declared.Card.{Card}
 use Rattle.card.specs.declared.Sequence.{Sequence}
 use Rattle.card.specs.declared.Sequence.the-variants.{Idle, Running}
 use Rattle.card.specs.declared.Held.the-variants.{Code}
-use Rattle.card.specs.Record.{shapeFits, sequenceFits, heldFits, isAccepted, remade, inMode, inSequence, holding, withAfi, withDsfid}
+use Rattle.card.specs.Record.{sequenceFits, heldFits, isAccepted, remade, inMode, inSequence, holding, withAfi, withDsfid}
 use Rattle.card.proofs.Changes.{Changes}
-use Rattle.card.proofs.Accepted.{Tests, tests-of}
+use Rattle.card.proofs.Accepted.{Tests, tests-of, Shape, shape-of}
 use Rattle.record.specs.Record.{cardOf, cardRead, recordLength, fieldsOf}
 use Rattle.record.specs.Fits.{Fits}
 
 -- ---- the numbers that number 1 judges
-
-shape-below : (blocks size : ℕ) → shapeFits blocks size ≡ true → (blocks < 256 ^ 4) × (size < 256 ^ 4)
-unfolding shapeFits
-shape-below blocks size e =
-    let least = and-eq-true-iff (leb 1 blocks) (leb blocks 256 && (leb 1 size && leb size 32)) .0 e in
-    let most = and-eq-true-iff (leb blocks 256) (leb 1 size && leb size 32) .0 (least .1) in
-    let sizes = and-eq-true-iff (leb 1 size) (leb size 32) .0 (most .1) in
-    let b : blocks ≤ 256 = leb-true blocks 256 (most .0) in
-    let s : size ≤ 32 = leb-true size 32 (sizes .1) in
-    (omega arith, omega arith)
 
 pub record Sequenced (s : Sequence) : Type 0 where
   pub running : fieldsOf s .running < 256
@@ -67,11 +57,11 @@ held-code code e = go (eqb code 0x02) (eqb code 0x10) (eqb code 0x11) (eqb code 
 pub accepted-fits : (c : Card) → isAccepted c ≡ true → c .uid < 256 ^ 8 → Fits c
 accepted-fits c a u =
     let tests : Tests c = tests-of c a in
-    let shape = shape-below (c .blocks) (c .size) (tests .shape) in
+    let shape : Shape (c .blocks) (c .size) = shape-of (c .blocks) (c .size) (tests .shape) in
     record {
       uid = u;
-      blocks = shape .0;
-      size = shape .1;
+      blocks = omega (arith, shape .blocks-most);
+      size = omega (arith, shape .size-most);
       mask = sequenced (c .sequence) (tests .sequence) .mask;
       code = λ code is. held-code code (rw is at (tests .held)) .0;
     }

@@ -5,7 +5,7 @@ use mathlib.Core.Path.{_≡_, refl}
 use Prim.Native.Nat.{_+_, _-_, _≤_}
 use lib.ListN.{length, length-set}
 use Rattle.play.proofs.Blocks.{Sofar, sofar-none, sofar-room, sofar-suc, puts-blocks}
-use Rattle.play.proofs.Shape.{block-within}
+use Rattle.play.proofs.Products.{block-within}
 use Rattle.play.proofs.answer.put_blocks.Statement.{statement}
 use Rattle.play.proofs.answer.put_blocks.Tie as tie
 

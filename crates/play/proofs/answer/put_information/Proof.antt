@@ -3,7 +3,7 @@
 use borrow.Author.Needs.{needs}
 use native.Mathlib.Omega.{arith}
 use lib.ListN.{length-set}
-use Rattle.play.proofs.Shape.{shape-of}
+use Rattle.card.proofs.Accepted.{shape-of}
 use Rattle.play.proofs.Answers.{puts-information}
 use Rattle.play.proofs.answer.put_information.Statement.{statement}
 use Rattle.play.proofs.answer.put_information.Tie as tie

@@ -3,7 +3,7 @@ use borrow.Author.Needs.{needs}
 use native.Mathlib.Omega.{arith}
 use borrow.Author.Tests.{eq-eqb, ne-eqb}
 use Rattle.play.specs.Refusal.{lengthsFit}
-use Rattle.play.proofs.Shape.{products-fit}
+use Rattle.play.proofs.Products.{products-fit}
 use Rattle.play.proofs.refusal.lengths_fit.Statement.{statement}
 use Rattle.play.proofs.refusal.lengths_fit.Tie as tie
 

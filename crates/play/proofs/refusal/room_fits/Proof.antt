@@ -3,7 +3,7 @@ use borrow.Author.Needs.{needs}
 use native.Mathlib.Omega.{arith}
 use borrow.Author.Tests.{le-leb, lt-leb}
 use Rattle.play.specs.Refusal.{roomFits}
-use Rattle.play.proofs.Shape.{products-fit}
+use Rattle.play.proofs.Products.{products-fit}
 use Rattle.play.proofs.refusal.room_fits.Statement.{statement}
 use Rattle.play.proofs.refusal.room_fits.Tie as tie
 
