@@ -1,57 +1,89 @@
 // The card on the desk: an event is played, and what came of it is told.
 ghost use Prim.Native.Nat.{_≤_};
-use crate::least;
-use crate::script::MARK;
-use crate::script::OFF;
+use crate::script::Event;
 use crate::told::tell;
+use crate::told::tell_blocks;
+use crate::told::tell_row;
+use crate::up_to;
+use card::Card;
+use play::Served;
 
-// One number of the card's shape, or the limit where it is over it: the card refuses such a shape.
-fn shape(card: &[u8], at: usize, most: usize) -> usize
+// The room for the longest answer, as number 4 has it: 3 and, for each of 256 blocks, its lock byte and 32 bytes.
+const ROOM: usize = 8451;
+
+// The card after an event, and whether that was told.
+pub(crate) struct Played {
+    pub(crate) card: Card,
+    pub(crate) is_told: bool,
+}
+
+// One number of the card's shape, or 0 where it is over its limit: the card refuses such a shape.
+fn within(n: u32, most: usize) -> usize
     ensures { λ r. ⌜ r ≤ most ⌝ }
 {
-    least(frames::field(card, at, 4) as usize, most)
+    if n as usize <= most { n as usize } else { 0 }
+}
+
+// How many bytes the card's memory has.
+fn cells(card: Card) -> usize
+    ensures { λ r. ⌜ r ≤ 8192 ⌝ }
+{
+    within(card.blocks, 256) * within(card.size, 32)
 }
 
 fn serve(
-    event: usize,
+    event: Event,
     frame: &[u8],
-    card: &mut [u8],
+    card: Card,
     memory: &mut [u8],
     locks: &mut [u8],
     room: &mut [u8],
-) -> i64 {
-    if event == MARK {
-        return board::ek_card_mark(card, memory, locks, room);
+) -> Served {
+    match event {
+        Event::Frame(count) => {
+            let n = up_to(count, frame);
+            play::events::frame(card, &frame[..n], memory, locks, room)
+        }
+        Event::Mark => play::events::mark(card, memory, locks, room),
+        Event::Off => play::events::power_off(card, memory, locks, room),
     }
-    if event == OFF {
-        return board::ek_card_power_off(card, memory, locks, room);
-    }
-    let n = least(event, frame.len());
-    board::ek_card_frame(card, &frame[..n], memory, locks, room)
 }
 
 // Plays an event with as much of memory and locks as is the card's.
 pub(crate) fn play(
-    event: usize,
+    event: Event,
+    line: &[u8],
     frame: &[u8],
-    found: [u8; 40],
+    card: Card,
     memory: &mut [u8],
     locks: &mut [u8],
-) -> [u8; 40] {
-    let mut card = found;
-    let mut room = [0u8; 8451];
-    let blocks = shape(&card, 8, 256);
-    let cells = blocks * shape(&card, 12, 32);
-    let n = least(blocks, locks.len());
-    let m = least(cells, memory.len());
-    let back = serve(
+) -> Played {
+    let mut room = [0u8; ROOM];
+    let m = up_to(cells(card), memory);
+    let n = up_to(within(card.blocks, 256), locks);
+    let served = serve(
         event,
         frame,
-        &mut card,
+        card,
         &mut memory[..m],
         &mut locks[..n],
         &mut room,
     );
-    tell(back, &room, card);
-    card
+    let next = served.card;
+    Played {
+        card: next,
+        is_told: tell(line, served, &room),
+    }
+}
+
+// Shows the card's memory, a line a block.
+pub(crate) fn show_memory(line: &[u8], card: Card, memory: &[u8]) -> bool {
+    let m = up_to(cells(card), memory);
+    tell_blocks(line, within(card.size, 32), &memory[..m])
+}
+
+// Shows the card's lock bytes.
+pub(crate) fn show_locks(line: &[u8], card: Card, locks: &[u8]) -> bool {
+    let n = up_to(within(card.blocks, 256), locks);
+    tell_row(line, &locks[..n])
 }

@@ -1,123 +1,212 @@
-// The lines of the script: the one that tells the card, and the events.
+// The lines of the script: the one that tells the card, the events, and the words that show it.
 use crate::desk::play;
-use crate::least;
+use crate::desk::show_locks;
+use crate::desk::show_memory;
+use crate::told::tell_bad_line;
+use crate::up_to;
+use card::Card;
+use card::Held;
+use card::Mode;
+use card::Sequence;
 use frames::byte_at;
-use frames::put_field;
 
-// Where the script stands after a line.
-const NO_CARD: u8 = 0;
-
-const CARD: u8 = 1;
-
-pub(crate) const BAD_LINE: u8 = 2;
-
-// What a line plays: a frame of so many bytes, or one of these.
-pub(crate) const MARK: usize = 100;
-
-pub(crate) const OFF: usize = 101;
-
-const NONE: usize = 102;
-
-// `card UID BLOCKS SIZE AFI DSFID IC`: the record of such a card.
-fn card_of(line: &[u8]) -> [u8; 40] {
-    let mut card = [0u8; 40];
-    put_field(&mut card, 0, 8, hex::number(line, 5, 16));
-    put_field(&mut card, 8, 4, hex::number(line, 22, 4));
-    put_field(&mut card, 12, 4, hex::number(line, 27, 2));
-    put_field(&mut card, 16, 1, hex::number(line, 30, 2));
-    put_field(&mut card, 17, 1, hex::number(line, 33, 2));
-    put_field(&mut card, 20, 1, hex::number(line, 36, 2));
-    card
+// What a card is played: a frame of so many bytes, a slot mark, power off.
+pub(crate) enum Event {
+    Frame(usize),
+    Mark,
+    Off,
 }
 
-// A word and a row: puts the bytes of the row into a frame, and returns how many they are.
-fn frame_after(word: &[u8], line: &[u8], frame: &mut [u8]) -> usize {
-    let at = least(word.len(), line.len());
-    if hex::has_form(&line[..at], word) & hex::is_row(&line[at..]) {
-        return io::count(hex::read_row(&line[at..], frame) as isize, frame);
+// What a line after the card's orders.
+enum Order {
+    Play(Event),
+    Memory,
+    Locks,
+    Wrong,
+}
+
+// Where the script stands after a line. It is over after a wrong line and where reading or writing failed.
+pub(crate) enum Stage {
+    NoCard,
+    Card,
+    BadLine,
+    Failed,
+}
+
+// Two and four digits as a number.
+fn pair(line: &[u8], at: usize) -> u8 {
+    hex::number(line, at, 2) as u8
+}
+
+fn two_pairs(line: &[u8], at: usize) -> u32 {
+    hex::number(line, at, 4) as u32
+}
+
+// `card UID BLOCKS SIZE AFI DSFID IC`: such a card, in Ready.
+fn card_of(line: &[u8]) -> Card {
+    Card {
+        blocks: two_pairs(line, 22),
+        size: pair(line, 27) as u32,
+        uid: hex::number(line, 5, 16),
+        afi: pair(line, 30),
+        dsfid: pair(line, 33),
+        afi_locked: false,
+        dsfid_locked: false,
+        ic_reference: pair(line, 36),
+        mode: Mode::Ready,
+        sequence: Sequence::Idle,
+        held: Held::Free,
     }
-    NONE
 }
 
-// An event of one word.
-fn short_event(line: &[u8]) -> usize {
+// An order of one word.
+fn short_order(line: &[u8]) -> Order {
     if hex::has_form(line, b"mark") {
-        return MARK;
+        return Order::Play(Event::Mark);
     }
     if hex::has_form(line, b"off") {
-        return OFF;
+        return Order::Play(Event::Off);
     }
-    NONE
+    if hex::has_form(line, b"memory") {
+        return Order::Memory;
+    }
+    if hex::has_form(line, b"locks") {
+        return Order::Locks;
+    }
+    Order::Wrong
 }
 
-fn event_of(line: &[u8], frame: &mut [u8]) -> usize {
-    let plain = frame_after(b"frame", line, frame);
-    if plain != NONE {
-        return plain;
-    }
-    let sealed = frame_after(b"seal", line, frame);
-    if sealed != NONE {
-        return io::count(frames::seal(frame, sealed) as isize, frame);
-    }
-    short_event(line)
+// Whether a line is a word and a row of pairs.
+fn is_row_after(word: &[u8], line: &[u8]) -> bool {
+    let at = up_to(word.len(), line);
+    hex::has_form(&line[..at], word) & hex::is_row(&line[at..])
 }
 
-// The card's record, and where the script stands.
+// The bytes of the row after a word, put into a frame: how many they are.
+fn frame_after(word: &[u8], line: &[u8], frame: &mut [u8]) -> usize {
+    let at = up_to(word.len(), line);
+    io::count(hex::read_row(&line[at..], frame) as isize, frame)
+}
+
+fn order_of(line: &[u8], frame: &mut [u8]) -> Order {
+    if is_row_after(b"frame", line) {
+        let n = frame_after(b"frame", line, frame);
+        return Order::Play(Event::Frame(n));
+    }
+    if is_row_after(b"seal", line) {
+        let n = frame_after(b"seal", line, frame);
+        let sealed = io::count(frames::seal(frame, n) as isize, frame);
+        return Order::Play(Event::Frame(sealed));
+    }
+    short_order(line)
+}
+
+// The card, and where the script stands.
 pub(crate) struct Desk {
-    pub(crate) card: [u8; 40],
-    pub(crate) stage: u8,
+    pub(crate) card: Card,
+    pub(crate) stage: Stage,
+}
+
+// The desk after a line that was told, or could not be.
+fn after(card: Card, is_told: bool) -> Desk {
+    if is_told {
+        return Desk {
+            card: card,
+            stage: Stage::Card,
+        };
+    }
+    Desk {
+        card: card,
+        stage: Stage::Failed,
+    }
 }
 
 impl Desk {
     pub(crate) fn new() -> Desk {
         Desk {
-            card: [0; 40],
-            stage: NO_CARD,
+            card: card_of(b""),
+            stage: Stage::NoCard,
+        }
+    }
+
+    fn ended(self, stage: Stage) -> Desk {
+        let card = self.card;
+        Desk {
+            card: card,
+            stage: stage,
         }
     }
 
     fn hear_card(self, line: &[u8]) -> Desk {
         if !hex::has_form(line, b"card XXXXXXXXXXXXXXXX XXXX XX XX XX XX") {
-            return Desk {
-                card: [0; 40],
-                stage: BAD_LINE,
-            };
+            return self.ended(Stage::BadLine);
         }
-        let card = card_of(line);
         Desk {
-            card: card,
-            stage: CARD,
+            card: card_of(line),
+            stage: Stage::Card,
         }
     }
 
-    fn hear_event(self, line: &[u8], memory: &mut [u8], locks: &mut [u8]) -> Desk {
+    fn hear_order(self, line: &[u8], memory: &mut [u8], locks: &mut [u8]) -> Desk {
         let mut frame = [0u8; 86];
         let card = self.card;
-        let event = event_of(line, &mut frame);
-        if event == NONE {
-            return Desk {
-                card: card,
-                stage: BAD_LINE,
-            };
-        }
-        let next = play(event, &frame, card, memory, locks);
-        Desk {
-            card: next,
-            stage: CARD,
+        let order = order_of(line, &mut frame);
+        match order {
+            Order::Play(event) => {
+                let played = play(event, line, &frame, card, memory, locks);
+                let next = played.card;
+                after(next, played.is_told)
+            }
+            Order::Memory => after(card, show_memory(line, card, memory)),
+            Order::Locks => after(card, show_locks(line, card, locks)),
+            Order::Wrong => self.ended(Stage::BadLine),
         }
     }
 
-    pub(crate) fn hear_line(mut self, line: &[u8], memory: &mut [u8], locks: &mut [u8]) -> Desk {
+    // Hears a line; one whose reading failed is no line.
+    pub(crate) fn hear_line(
+        self,
+        line: &[u8],
+        failed: bool,
+        memory: &mut [u8],
+        locks: &mut [u8],
+    ) -> Desk {
+        if failed {
+            return self.ended(Stage::Failed);
+        }
         if line.len() > 256 {
-            self.stage = BAD_LINE;
-            return self;
+            return self.ended(Stage::BadLine);
         }
         if (line.len() == 0) | (byte_at(line, 0) == b'#') {
             return self;
         }
-        if self.stage == NO_CARD {
-            return self.hear_card(line);
+        let stage = self.stage;
+        match stage {
+            Stage::NoCard => self.hear_card(line),
+            Stage::Card => self.hear_order(line, memory, locks),
+            Stage::BadLine => self,
+            Stage::Failed => self,
         }
-        self.hear_event(line, memory, locks)
+    }
+
+    pub(crate) fn is_over(self) -> bool {
+        let stage = self.stage;
+        match stage {
+            Stage::NoCard => false,
+            Stage::Card => false,
+            Stage::BadLine => true,
+            Stage::Failed => true,
+        }
+    }
+
+    // Tells the number of a line that can't be read.
+    pub(crate) fn tell_end(self, number: u64) {
+        let stage = self.stage;
+        match stage {
+            Stage::NoCard => {}
+            Stage::Card => {}
+            Stage::BadLine => tell_bad_line(number),
+            Stage::Failed => {}
+        }
     }
 }

@@ -1,22 +1,21 @@
-// What is printed: the answer, and the record after it.
+// What is printed: each line that is played, the answer, and the record after it.
 ghost use Prim.Native.Nat.{_≤_};
 ghost use lib.ListN.{length};
 ghost use mathlib.Core.List.{[], _∷_, _++_};
 ghost use Rattle.hex.specs.Rows.{rowText};
 ghost use Rattle.player.specs.Text.{Adds};
-ghost use Rattle.player.specs.Record.{modeText, sequenceText, heldText, keptText, recordText};
+ghost use Rattle.player.specs.Record.{modeText, maskText, runningText, sequenceText, heldText, keptText, recordText};
 use crate::least;
+use crate::up_to;
+use card::Card;
+use card::Held;
+use card::Mode;
+use card::Sequence;
 use libc::STDOUT_FILENO;
+use play::Served;
 
-// The end of the script. A line that can't be read is told.
-pub(crate) fn tell_end(is_bad: bool, number: u64) {
-    if !is_bad {
-        return;
-    }
-    io::write_all(STDOUT_FILENO, b"bad line ");
-    io::print_decimal(STDOUT_FILENO, number);
-    io::write_all(STDOUT_FILENO, b"\n");
-}
+// Room for all that is told of a line: its 256 bytes, an answer of 8451 in three each, and a record of less than 128.
+const MOST_TOLD: usize = 25737;
 
 // Puts bytes at a place of a text, as many as it has room for, and returns the place after them.
 fn put(bytes: &[u8], text: &mut [u8], at: usize) -> usize
@@ -49,99 +48,159 @@ fn put_pair(name: &[u8], b: u8, text: &mut [u8], at: usize) -> usize
     put_row(name, &one, text, at)
 }
 
-fn put_mode(mode: u8, text: &mut [u8], at: usize) -> usize
+fn put_mode(mode: Mode, text: &mut [u8], at: usize) -> usize
     ensures { λ r. ⌜ Adds at (modeText mode) (now (text .entry)) r (now (text .exit)) ⌝ }
 {
-    if mode == 0 {
-        return put(b"\n  mode Ready", text, at);
+    match mode {
+        Mode::Ready => put(b"\n  mode Ready", text, at),
+        Mode::Quiet => put(b"\n  mode Quiet", text, at),
+        Mode::Selected => put(b"\n  mode Selected", text, at),
     }
-    if mode == 1 {
-        return put(b"\n  mode Quiet", text, at);
-    }
-    put(b"\n  mode Selected", text, at)
+}
+
+fn put_mask(mask: u64, text: &mut [u8], at: usize) -> usize
+    ensures { λ r. ⌜ Adds at (maskText mask) (now (text .entry)) r (now (text .exit)) ⌝ }
+{
+    let mut bytes = [0u8; 8];
+    frames::put_field(&mut bytes, 0, 8, mask);
+    put_row(b", mask", &bytes, text, at)
+}
+
+// A sequence that runs.
+fn put_running(slot: u8, length: u8, mask: u64, text: &mut [u8], at: usize) -> usize
+    ensures { λ r. ⌜ Adds at (runningText slot length mask) (now (text .entry)) r (now (text .exit)) ⌝ }
+{
+    let next = put_pair(b", slot", slot, text, at);
+    let last = put_pair(b", mask length", length, text, next);
+    put_mask(mask, text, last)
 }
 
 // The sequence, if one runs.
-fn put_sequence(card: [u8; 40], text: &mut [u8], at: usize) -> usize
-    ensures { λ r. ⌜ Adds at (sequenceText card) (now (text .entry)) r (now (text .exit)) ⌝ }
+fn put_sequence(sequence: Sequence, text: &mut [u8], at: usize) -> usize
+    ensures { λ r. ⌜ Adds at (sequenceText sequence) (now (text .entry)) r (now (text .exit)) ⌝ }
 {
-    if card[22] == 0 {
-        return at;
+    match sequence {
+        Sequence::Idle => at,
+        Sequence::Running(slot, length, mask) => put_running(slot, length, mask, text, at),
     }
-    let slot = put_pair(b", slot", card[23], text, at);
-    let length = put_pair(b", mask length", card[24], text, slot);
-    put_row(b", mask", &card[32..40], text, length)
 }
 
 // The held answer, if there is one.
-fn put_held(held: u8, text: &mut [u8], at: usize) -> usize
+fn put_held(held: Held, text: &mut [u8], at: usize) -> usize
     ensures { λ r. ⌜ Adds at (heldText held) (now (text .entry)) r (now (text .exit)) ⌝ }
 {
-    if held == 0 {
-        return at;
+    match held {
+        Held::Free => at,
+        Held::Success => put(b", held success", text, at),
+        Held::Code(code) => put_pair(b", held error", code, text, at),
     }
-    if held == 1 {
-        return put(b", held success", text, at);
-    }
-    put_pair(b", held error", held, text, at)
 }
 
 // A byte of the record that may be locked.
-fn put_kept(name: &[u8], b: u8, lock: u8, text: &mut [u8], at: usize) -> usize
-    ensures { λ r. ⌜ Adds at (keptText (now (name .entry)) b lock) (now (text .entry)) r (now (text .exit)) ⌝ }
+fn put_kept(name: &[u8], b: u8, locked: bool, text: &mut [u8], at: usize) -> usize
+    ensures { λ r. ⌜ Adds at (keptText (now (name .entry)) b locked) (now (text .entry)) r (now (text .exit)) ⌝ }
 {
     let next = put_pair(name, b, text, at);
-    if lock == 0 {
-        return next;
+    if locked {
+        return put(b" locked", text, next);
     }
-    put(b" locked", text, next)
+    next
 }
 
 // The record, on the next line.
-fn put_record(card: [u8; 40], text: &mut [u8], at: usize) -> usize
+fn put_record(card: Card, text: &mut [u8], at: usize) -> usize
     ensures { λ r. ⌜ Adds at (recordText card) (now (text .entry)) r (now (text .exit)) ⌝ }
 {
-    let mode = put_mode(card[21], text, at);
-    let sequence = put_sequence(card, text, mode);
-    let held = put_held(card[25], text, sequence);
-    let afi = put_kept(b", AFI", card[16], card[18], text, held);
-    put_kept(b", DSFID", card[17], card[19], text, afi)
+    let mode = card.mode;
+    let sequence = card.sequence;
+    let held = card.held;
+    let mode_end = put_mode(mode, text, at);
+    let sequence_end = put_sequence(sequence, text, mode_end);
+    let held_end = put_held(held, text, sequence_end);
+    let afi_end = put_kept(b", AFI", card.afi, card.afi_locked, text, held_end);
+    put_kept(b", DSFID", card.dsfid, card.dsfid_locked, text, afi_end)
 }
 
-// The number of a card's refusal, 1 to 4.
-fn refusal(back: i64) -> u64 {
-    if back == -1 {
-        return 1;
+// Puts the pairs for bytes on the next line, with single spaces between them: the line feed stands where the row has its first space.
+fn put_pairs(bytes: &[u8], text: &mut [u8], at: usize) -> usize {
+    let next = io::count(hex::put_row(bytes, text, at) as isize, text);
+    if at < text.len() {
+        text[at] = b'\n';
     }
-    if back == -2 {
-        return 2;
-    }
-    if back == -3 {
-        return 3;
-    }
-    4
+    next
 }
 
-// The answer, silence, or the number of the refusal, after a space.
-fn put_answer(back: i64, room: &[u8], text: &mut [u8]) -> usize {
-    if back == 0 {
-        return put(b" silence", text, 0);
-    }
-    if back < 0 {
-        let one = [hex::digit(refusal(back))];
-        let next = put(b" refused ", text, 0);
+// The answer, silence, or the number of the refusal, on the next line.
+fn put_answer(number: u8, answer: &[u8], text: &mut [u8], at: usize) -> usize {
+    if number != 0 {
+        let one = [hex::digit(number as u64)];
+        let next = put(b"\nrefused ", text, at);
         return put(&one, text, next);
     }
-    let n = io::count(back as isize, room);
-    io::count(hex::put_row(&room[..n], text, 0) as isize, text)
+    if answer.len() == 0 {
+        return put(b"\nsilence", text, at);
+    }
+    put_pairs(answer, text, at)
 }
 
-// Tells the answer and the record after it.
-pub(crate) fn tell(back: i64, room: &[u8], card: [u8; 40]) {
-    let mut text = [0u8; 25600];
-    let answer = put_answer(back, room, &mut text);
+// Puts blocks of so many bytes, each on a line.
+fn put_blocks(size: usize, memory: &[u8], text: &mut [u8], at: usize) -> usize {
+    if size == 0 {
+        return at;
+    }
+    let mut next = at;
+    let mut from = 0;
+    while from < memory.len() {
+        let to = from + least(size, memory.len() - from);
+        next = put_pairs(&memory[from..to], text, next);
+        from = to;
+    }
+    next
+}
+
+// Writes a text with a line feed after it. A write that fails is told.
+fn write(text: &mut [u8], at: usize) -> bool {
+    let n = up_to(put(b"\n", text, at), text);
+    let is_written = io::write_all(STDOUT_FILENO, &text[..n]);
+    if !is_written {
+        os::fail(b"espenknoten-player: standard output");
+    }
+    is_written
+}
+
+// Tells a line of the script, the answer to it and the record after it.
+pub(crate) fn tell(line: &[u8], served: Served, room: &[u8]) -> bool {
+    let mut text = [0u8; MOST_TOLD];
+    let heard = put(line, &mut text, 0);
+    let n = up_to(served.length, room);
+    let answer = put_answer(served.number, &room[..n], &mut text, heard);
+    let card = served.card;
     let record = put_record(card, &mut text, answer);
-    let n = least(put(b"\n", &mut text, record), 25600);
-    let from = least(1, n);
-    io::write_all(STDOUT_FILENO, &text[from..n]);
+    write(&mut text, record)
+}
+
+// Tells a line of the script, and bytes.
+pub(crate) fn tell_row(line: &[u8], bytes: &[u8]) -> bool {
+    let mut text = [0u8; MOST_TOLD];
+    let heard = put(line, &mut text, 0);
+    let end = put_pairs(bytes, &mut text, heard);
+    write(&mut text, end)
+}
+
+// Tells a line of the script, and blocks.
+pub(crate) fn tell_blocks(line: &[u8], size: usize, memory: &[u8]) -> bool {
+    let mut text = [0u8; MOST_TOLD];
+    let heard = put(line, &mut text, 0);
+    let end = put_blocks(size, memory, &mut text, heard);
+    write(&mut text, end)
+}
+
+// Tells the number of a line that can't be read.
+pub(crate) fn tell_bad_line(number: u64) {
+    let mut digits = [0u8; 20];
+    let n = io::decimal(number, &mut digits);
+    let mut text = [0u8; 32];
+    let at = put(b"bad line ", &mut text, 0);
+    let end = put(&digits[..n], &mut text, at);
+    write(&mut text, end);
 }

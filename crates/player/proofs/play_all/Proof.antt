@@ -1,18 +1,17 @@
 -- `player::play_all` is safe and ends. The loop's invariant: the lent buffers keep their lengths. The measure is the number of turns that are left.
 -- Assumes nothing.
 use native.Mathlib.Omega.{arith}
-use mathlib.Core.Path.{_≡_, refl, sym}
+use mathlib.Core.Path.{_≡_, refl}
 use lib.ListN.{length}
-use lib.Seq.{length-take-le}
 use Rattle.player.proofs.play_all.Statement.{statement}
 use Rattle.player.proofs.play_all.Tie as tie
 
 abbrev Inv-loop : tie.InvT-loop
-Inv-loop piece₀ line₀ memory₀ locks₀ reading₀ desk₀ number₀ turns₀ piece line memory locks reading desk number turns =
+Inv-loop fd piece₀ line₀ memory₀ locks₀ reading₀ desk₀ number₀ turns₀ piece line memory locks reading desk number turns =
     (length piece ≡ length piece₀) × (length line ≡ length line₀) × (length memory ≡ length memory₀) × (length locks ≡ length locks₀)
 
 abbrev μ-loop : tie.MeasureT-loop
-μ-loop piece₀ line₀ memory₀ locks₀ reading₀ desk₀ number₀ turns₀ piece line memory locks reading desk number turns = turns
+μ-loop fd piece₀ line₀ memory₀ locks₀ reading₀ desk₀ number₀ turns₀ piece line memory locks reading desk number turns = turns
 
 new-requires : tie.Need-new-requires Inv-loop μ-loop
 new-requires c κs = tt
@@ -29,19 +28,20 @@ wrapping-add-u64-requires c κs = tt
 next-line-requires : tie.Need-next-line-requires Inv-loop μ-loop
 next-line-requires c κs = tt
 
-least-requires : tie.Need-least-requires Inv-loop μ-loop
-least-requires c κs = tt
+up-to-requires : tie.Need-up-to-requires Inv-loop μ-loop
+up-to-requires c κs = tt
 
 slice-reshare-prefix-hear-line : tie.Need-slice-reshare-prefix-hear-line Inv-loop μ-loop
 slice-reshare-prefix-hear-line c = omega arith
 
 slice-aggregate-hear-line : tie.Need-slice-aggregate-hear-line Inv-loop μ-loop
-slice-aggregate-hear-line c =
-    let line = c .before .before .before .before .before .before .next-line .last .1 .1 .0 in
-    sym (length-take-le (c .before .least .result) line (omega arith))
+slice-aggregate-hear-line c = c .before .up-to .ensures .1
 
 hear-line-requires : tie.Need-hear-line-requires Inv-loop μ-loop
 hear-line-requires c κs = tt
+
+is-over-requires : tie.Need-is-over-requires Inv-loop μ-loop
+is-over-requires c κs = tt
 
 turns-left-requires : tie.Need-turns-left-requires Inv-loop μ-loop
 turns-left-requires c κs = omega arith
@@ -50,7 +50,15 @@ loop-less : tie.Need-loop-less Inv-loop μ-loop
 loop-less c = omega arith
 
 loop-again : tie.Need-loop-again Inv-loop μ-loop
-loop-again c = (omega arith, omega arith, omega arith, omega arith)
+loop-again c =
+    let heard = c .before .before .before .before .before .before .before in
+    let taken = heard .before .before .before .before .before .before .before in
+    let inv = taken .before .before .before .before .before .before .before .before .loop .inv in (
+      omega (arith, inv .0, taken .before .before .piece),
+      omega (arith, inv .1, taken .line),
+      omega (arith, inv .2, c .before .before .before .before .before .before .memory),
+      omega (arith, inv .3, c .before .before .before .before .locks),
+    )
 
 tell-end-requires : tie.Need-tell-end-requires Inv-loop μ-loop
 tell-end-requires c κs = tt
@@ -81,10 +89,11 @@ play-all-spec =
     loop-holds
     wrapping-add-u64-requires
     next-line-requires
-    least-requires
+    up-to-requires
     slice-reshare-prefix-hear-line
     slice-aggregate-hear-line
     hear-line-requires
+    is-over-requires
     turns-left-requires
     loop-less
     loop-again

@@ -1,16 +1,17 @@
--- `player::lines::Reading::next_line` is safe and ends. The loop's invariant: the lent buffers keep their lengths. The measure is the number of turns
--- that are left. Assumes nothing.
+-- `player::lines::Reading::next_line` is safe and ends. The loop's invariant: the lent buffers keep their lengths. The measure is the room that the
+-- line has left. Assumes nothing.
 use native.Mathlib.Omega.{arith}
 use mathlib.Core.Path.{_≡_, refl}
-use lib.ListN.{length}
+use Prim.Native.Nat.{_-_}
+use lib.ListN.{length, length-set}
 use Rattle.player.proofs.lines.Reading.next_line.Statement.{statement}
 use Rattle.player.proofs.lines.Reading.next_line.Tie as tie
 
 abbrev Inv-loop : tie.InvT-loop
-Inv-loop self₀ piece₀ line₀ n₀ turns₀ self piece line n turns = (length piece ≡ length piece₀) × (length line ≡ length line₀)
+Inv-loop self₀ fd piece₀ line₀ n₀ self piece line n = (length piece ≡ length piece₀) × (length line ≡ length line₀)
 
 abbrev μ-loop : tie.MeasureT-loop
-μ-loop self₀ piece₀ line₀ n₀ turns₀ self piece line n turns = turns
+μ-loop self₀ fd piece₀ line₀ n₀ self piece line n = length line₀ - n
 
 loop-holds : tie.Need-loop-holds Inv-loop μ-loop
 loop-holds c = (refl, refl)
@@ -18,17 +19,17 @@ loop-holds c = (refl, refl)
 next-byte-requires : tie.Need-next-byte-requires Inv-loop μ-loop
 next-byte-requires c κs = tt
 
-store-requires : tie.Need-store-requires Inv-loop μ-loop
-store-requires c κs = tt
+slice-write-line : tie.Need-slice-write-line Inv-loop μ-loop
+slice-write-line c = omega arith
 
-sub-turns : tie.Need-sub-turns Inv-loop μ-loop
-sub-turns c = omega arith
+add-n : tie.Need-add-n Inv-loop μ-loop
+add-n c = omega arith
 
 loop-less : tie.Need-loop-less Inv-loop μ-loop
 loop-less c = omega arith
 
 loop-again : tie.Need-loop-again Inv-loop μ-loop
-loop-again c = (omega arith, omega arith)
+loop-again c = (omega arith, simp length-set (c .before .before .before .before .before .before .before .before .loop .inv .1))
 
 same-length : tie.Need-same-length Inv-loop μ-loop
 same-length c = omega arith
@@ -56,8 +57,8 @@ next-line-spec =
     μ-loop
     loop-holds
     next-byte-requires
-    store-requires
-    sub-turns
+    slice-write-line
+    add-n
     loop-less
     loop-again
     same-length
