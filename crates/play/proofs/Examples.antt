@@ -1,5 +1,5 @@
 -- 01's examples of the card, on its calls, under one statement (ExampleReads.antt, ExampleRequests.antt, ExampleSlots.antt). Assumes nothing.
-use mathlib.Core.Path.{_≡_, _∙_}
+use mathlib.Core.Path.{_≡_, refl, _∙_}
 use mathlib.Core.Bool.{_&&_}
 use Prim.Native.Nat.{ℕ, _+_, _*_, _/_, _%_, _^_, _<_}
 use native.Mathlib.Nat.{mod-lt}
@@ -8,19 +8,24 @@ use native.Mathlib.Omega.{arith}
 use mathlib.Core.List.{List}
 use borrow.Author.Tests.{eq-eqb, ne-eqb}
 use lib.Dec.{eqb}
-use lib.ListN.{length}
+use lib.ListN.{length, replicate}
 use lib.Pow.{pow-pos, mod-pow-add}
 use Rattle.frames.specs.Field.{fieldOf}
 use Rattle.slots.specs.Fits.{maskBytes, fitsMask, fitsSlot}
 use Rattle.card.specs.declared.Card.{Card}
 use Rattle.card.specs.declared.Sequence.the-variants.{Running}
-use Rattle.card.specs.Record.{cleared, inSequence}
+use Rattle.card.specs.Record.{isQuiet, shapeFits, sequenceFits, heldFits, isAccepted, cleared, inSequence}
+use Rattle.play.specs.Refusal.{lengthsFit, locksFit, roomFits, refusal}
 use Rattle.play.specs.Events.{frameEvent}
-use Rattle.play.specs.Examples.{Listens, silence, presents, inventory, CardExamples}
+use Rattle.play.specs.Examples.{Listens, blank, silence, presents, inventory, CardExamples}
 use Rattle.play.proofs.EventWays.{frame-served}
 use Rattle.play.proofs.ExampleReads.{information-shown, last-read, last-read-with-lock, past-last-refused}
 use Rattle.play.proofs.ExampleRequests.{inventory-taken, inventory-passed, silence-served, presents-served, padding-same}
 use Rattle.play.proofs.ExampleSlots.{slots-heard}
+
+some-card : Listens blank (replicate 128 0x00) (replicate 32 0) (replicate 163 0x00)
+unfolding blank refusal isAccepted shapeFits sequenceFits heldFits lengthsFit locksFit roomFits isQuiet
+some-card = record { served = refl; heard = refl }
 
 -- slot 0 of a mask of 60 bits: these are the UID's 64
 own-mask : (uid mask : ℕ) → mask < 2 ^ 60 → fitsSlot uid 0x3c mask 0 ≡ eqb (uid % 2 ^ 64) mask
@@ -55,6 +60,7 @@ module _ (c : Card) (memory locks found : List ℕ) (listens : Listens c memory 
 pub card-examples : CardExamples
 card-examples =
     record {
+      blank-listens = some-card;
       slot-5-only = λ c memory locks found listens is s h. slots-heard c memory locks is found (listens .served) (listens .heard) s h;
       padding-ignored = padding-same;
       length-3c = taken-3c;

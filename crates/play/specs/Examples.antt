@@ -4,12 +4,14 @@ use mathlib.Core.Bool.{Bool, false, cond}
 use mathlib.Core.List.{List, [], _∷_, _++_}
 use mathlib.Core.Path.{_≡_}
 use lib.Dec.{ltb, eqb}
-use lib.ListN.{length, take, drop, getD}
+use lib.ListN.{length, take, drop, getD, replicate}
 use Rattle.lent.specs.Lent.{over}
 use Rattle.crc.specs.Check.{sealed}
 use Rattle.frames.specs.Field.{fieldOf, fieldBytes}
 use Rattle.card.specs.declared.Card.{Card}
-use Rattle.card.specs.declared.Sequence.the-variants.{Running}
+use Rattle.card.specs.declared.Mode.the-variants.{Ready}
+use Rattle.card.specs.declared.Sequence.the-variants.{Idle, Running}
+use Rattle.card.specs.declared.Held.the-variants.{Free}
 use Rattle.card.specs.Record.{isQuiet, cleared, inSequence}
 use Rattle.play.specs.Refusal.{refusal}
 use Rattle.play.specs.Events.{Outcome, frameEvent, markEvent}
@@ -18,6 +20,23 @@ use Rattle.play.specs.Events.{Outcome, frameEvent, markEvent}
 pub record Listens (c : Card) (memory locks found : List ℕ) : Type 0 where
   pub served : refusal c (length memory) locks (length found) ≡ 0
   pub heard : isQuiet (c .mode) ≡ false
+
+-- one that does: 32 blocks of 4, low UID bits 5ABC
+unfoldable pub blank : Card
+blank =
+    record {
+      blocks = 32;
+      size = 4;
+      uid = 0xe004010000005abc;
+      afi = 0;
+      dsfid = 0;
+      «afi_locked» = false;
+      «dsfid_locked» = false;
+      «ic_reference» = 0;
+      mode = Ready;
+      sequence = Idle;
+      held = Free;
+    }
 
 -- a call that is served in silence
 unfoldable pub silence : Card → List ℕ → List ℕ → List ℕ → Outcome
@@ -45,6 +64,8 @@ abbrev pub inventory : ℕ → List ℕ → List ℕ
 inventory n mask = sealed (0x06 ∷ 0x01 ∷ n ∷ mask)
 
 pub record CardExamples : Type 0 where
+  -- there is a card, a memory, lock bytes and a room of whom all of these speak
+  pub blank-listens : Listens blank (replicate 128 0x00) (replicate 32 0) (replicate 163 0x00)
   -- "mask length 0C, bytes BC 0A, fits low bits 5ABC in slot 5 only": later slots find the answer of slot 5 in the room
   pub slot-5-only : (c : Card) (memory locks found : List ℕ) → Listens c memory locks found → c .uid % 2 ^ 16 ≡ 0x5abc → (s : ℕ) → s ≤ 15
       → inSlot c (inventory 0x0c (0xbc ∷ 0x0a ∷ [])) memory locks found s
@@ -53,7 +74,7 @@ pub record CardExamples : Type 0 where
   -- "BC FA means the same": in every slot, for every card
   pub padding-ignored : (c : Card) (memory locks found : List ℕ) (s : ℕ)
       → inSlot c (inventory 0x0c (0xbc ∷ 0xfa ∷ [])) memory locks found s ≡ inSlot c (inventory 0x0c (0xbc ∷ 0x0a ∷ [])) memory locks found s
-  -- "mask length 3C accepted with sixteen slots": a sequence starts with the mask's low 60 bits, which the card's 64 are in slot 0
+  -- "mask length 3C accepted with sixteen slots": a sequence starts with the mask's low 60 bits; slot 0 is answered where the UID is these
   pub length-3c : (c : Card) (memory locks found : List ℕ) → Listens c memory locks found → (mask : List ℕ) → length mask ≡ 8
       → frameEvent c (inventory 0x3c mask) memory locks found
       ≡ presents (eqb (c .uid % 2 ^ 64) (fieldOf mask % 2 ^ 60)) (inSequence (Running 0 0x3c (fieldOf mask % 2 ^ 60)) (cleared c)) memory locks found
