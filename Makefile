@@ -15,8 +15,8 @@ programs := bench draw player
 open := (
 calls := $(shell sed -nE 's/^(static inline )?[a-z0-9_]+ (ek_[a-z_]+)[$(open)].*/\2/p' include/espenknoten.h)
 
-# The C examples: examples/NAME.c.
-examples := inventory tag walk
+# Every C example has a target of its name.
+examples := $(notdir $(basename $(wildcard examples/*.c)))
 
 lib := target/staticlib/libboard.a
 c99 := -std=c99 -Wall -Wextra -Werror -pedantic

@@ -88,7 +88,7 @@ uint32_t ek_version(void);
 /* What EK_DECODED_KIND gives for a track that is a slot mark. */
 #define EK_SLOT_MARK 2
 
-/* A slot mark on the air: a track of this one byte, the end of every track. */
+/* A slot mark on the air: a track of this byte alone, which ends all tracks. */
 #define EK_TRACK_SLOT_MARK 0x20
 
 /* The length of the track of a frame of n bytes, and the longest tracks. */
@@ -168,11 +168,15 @@ static inline void ek_put_number(uint8_t *bytes, size_t count, uint64_t number)
  * is addressed, the body, and the check. The two lowest flags are the radio's.
  */
 #define EK_FLAG_INVENTORY 0x04
-#define EK_FLAG_SELECT 0x10   /* without EK_FLAG_INVENTORY */
+
+/* With EK_FLAG_INVENTORY: a family is named; one slot, without it sixteen. */
+#define EK_FLAG_AFI 0x10
+#define EK_FLAG_ONE_SLOT 0x20
+
+/* Without EK_FLAG_INVENTORY. */
+#define EK_FLAG_SELECT 0x10
 #define EK_FLAG_ADDRESS 0x20
 #define EK_FLAG_OPTION 0x40
-#define EK_FLAG_AFI 0x10      /* with it */
-#define EK_FLAG_ONE_SLOT 0x20 /* without this, sixteen slots */
 
 #define EK_COMMAND_INVENTORY 0x01
 #define EK_COMMAND_STAY_QUIET 0x02
@@ -450,8 +454,10 @@ struct ek_walk {
     uint8_t ending;     /* one of EK_WALK_.. below; all else: overrun */
 };
 
-/* The record is 48 bytes, without padding: else this does not compile. Its
- * alignment is that of uint64_t. */
+/*
+ * The record is 48 bytes, without padding: else this does not compile. It is
+ * aligned as uint64_t is.
+ */
 typedef char ek_walk_has_48_bytes[sizeof(struct ek_walk) == 48 ? 1 : -1];
 
 /* The walk's endings, and 0 as long as it runs. */

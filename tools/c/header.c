@@ -11,6 +11,10 @@
 
 #include "espenknoten.h"
 
+#if EK_VERSION < 65536
+#error "EK_VERSION is no number for the preprocessor"
+#endif
+
 #define UID UINT64_C(0xE004010203040506)
 #define BLOCKS 4
 #define SIZE 3
