@@ -19,7 +19,7 @@ use Rattle.walk.proofs.Limits.{is-accepted-of-accepted}
 use Rattle.walk.proofs.Accepted.{ended-facts}
 use Rattle.field.proofs.Ahead.{ahead}
 use Rattle.field.proofs.AnyReplies.{alone, Walks, Fits, note-walks, next-walks, open-walks}
-use Rattle.field.proofs.Next.{noted-kept, noted-rounds, noted-ending}
+use Rattle.field.proofs.Next.{noted-kept, noted-ending}
 
 -- after n slots: the walk hears, or it has ended
 pub data Stage (n : ℕ) (w : Walk) (list : List ℕ) : Type 0 where
@@ -84,5 +84,5 @@ after-slot n w list s g h e c f = go (eqb (endsAtOnce w s) 0) refl
         let same : x .slot ≡ w .slot = noted-kept w s .slot in
         passes n x (listNoted w s list)
         (subst (λ (t : ℕ). Walks x (listNoted w s list) (suc t)) (sym same) (note-walks w list s h g (eqb-true (endsAtOnce w s) 0 d) f))
-        (rw same h) (noted-ending w s ∙ e) (rw (noted-rounds w s, same) c)
+        (rw same h) (noted-ending w s ∙ e) (rw (noted-kept w s .rounds, same) c)
     go false d = ends-with (suc n) (endsAtOnce w s) (w .slot) w list (eqb-false (endsAtOnce w s) 0 d) h g

@@ -1,8 +1,8 @@
--- Demand 3, and what the round count counts. By the verdict of a walk of a fixed field, and the measure that ends it.
+-- Demand 3. By the verdict of a walk of a fixed field, and the measure that ends it.
 -- Assumes nothing.
-use mathlib.Core.Path.{_≡_, refl, sym, ap₂, subst, _∙_}
-use mathlib.Core.Bool.{Bool, true, false, cond, false≢true}
-use Prim.Native.Nat.{ℕ, zero, suc, _+_, _*_, _/_, _^_, _≤_, _<_}
+use mathlib.Core.Path.{_≡_, refl, ap₂, subst}
+use mathlib.Core.Bool.{Bool, true, false, cond}
+use Prim.Native.Nat.{ℕ, zero, suc, _*_, _/_, _^_, _≤_, _<_}
 use native.Mathlib.Nat.{zero-add}
 use native.Mathlib.Omega.{arith}
 use mathlib.Core.List.{List, [], _∷_}
@@ -17,7 +17,7 @@ use Rattle.walk.specs.Record.{isRunning}
 use Rattle.field.specs.Field.{Tag, answers, answering}
 use Rattle.field.specs.Played.{Play, playedFor, fresh}
 use Rattle.field.specs.Found.{Different, listed, Found}
-use Rattle.field.specs.Demand.{AllObey, none, more, cardLeft, cardsLeft, cards, memories, lockBytes, Demand3, demand3, roundsCounted}
+use Rattle.field.specs.Demand.{AllObey, none, more, cardLeft, cardsLeft, cards, memories, lockBytes, Demand3, demand3}
 use Rattle.field.proofs.Next.{Verdict, completes, twin, fills}
 use Rattle.field.proofs.InTime.{AtSlot, Both, inStep}
 use Rattle.field.proofs.InTime as row
@@ -122,25 +122,16 @@ ends family tags us n p h (rests a r v b) =
       locks-left = locks-of family (p .walk .level) (p .walk .mask) (p .walk .slot) tags (p .tags) b;
     }
 
+-- after n slots of a fresh walk
+pub stage-after : (family : ℕ) (tags : List Tag) (list room : List ℕ) → AllObey tags → 64 ≤ length list → 14 ≤ length room → (n : ℕ)
+    → Stage family tags (answering family tags) n (playedFor n (fresh family list room tags))
+stage-after family tags list room obey places fits n =
+    subst (λ (k : ℕ). Stage family tags (answering family tags) k (playedFor n (fresh family list room tags))) (zero-add n)
+    (stage-for family tags n 0 (fresh family list room tags) obey (uids-fit family tags obey)
+    (stage-fresh family tags (answering family tags) list room obey places fits))
+
 pub walk-of-a-field : demand3
 unfolding demand3
-walk-of-a-field family tags list room obey places room-fits =
-    ends family tags (answering family tags) (0 + 16 * 481) (playedFor (16 * 481) (fresh family list room tags)) (omega arith)
-    (stage-for family tags (16 * 481) 0 (fresh family list room tags) obey (uids-fit family tags obey)
-    (stage-fresh family tags (answering family tags) list room obey places room-fits))
-
--- ---- the round count
-
-runs-counted : (family : ℕ) (tags : List Tag) (us : List ℕ) (n : ℕ) (p : Play) → Stage family tags us n p → isRunning (p .walk) ≡ true
-    → 16 * p .walk .rounds + p .walk .slot ≡ 16 + n
-runs-counted family tags us n p (hears g s e f room count b) running = count
-runs-counted family tags us n p (rests a r v b) running = absurd (false≢true (sym r ∙ running))
-
-pub rounds-of-a-field : roundsCounted
-unfolding roundsCounted
-rounds-of-a-field family tags list room obey places room-fits n =
-    let p : Play = fresh family list room tags in
-    let stage : Stage family tags (answering family tags) (0 + n) (playedFor n p) =
-    stage-for family tags n 0 p obey (uids-fit family tags obey) (stage-fresh family tags (answering family tags) list room obey places room-fits) in
-    runs-counted family tags (answering family tags) n (playedFor n p)
-    (subst (λ (k : ℕ). Stage family tags (answering family tags) k (playedFor n p)) (zero-add n) stage)
+walk-of-a-field family tags list room obey places fits =
+    ends family tags (answering family tags) (16 * 481) (playedFor (16 * 481) (fresh family list room tags)) (omega arith)
+    (stage-after family tags list room obey places fits (16 * 481))

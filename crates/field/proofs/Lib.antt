@@ -34,5 +34,6 @@ pub mod Stood
 pub mod AnyStages
 pub mod AnyWalk
 pub mod Demand3
+pub mod Rounds
 pub mod Examples
 pub mod Answering

@@ -20,12 +20,13 @@ pub data Verdict (us : List ℕ) (w : Walk) (list : List ℕ) : Type 0 where
   twin : w .ending ≡ twins → (u : ℕ) → 2 ≤ times u us → Verdict us w list
   fills : w .ending ≡ full → 64 < length us → Verdict us w list
 
--- level, mask, slot and family stay
+-- level, mask, slot, family and rounds stay
 pub record Kept (w w' : Walk) : Type 0 where
   pub level : w' .level ≡ w .level
   pub mask : w' .mask ≡ w .mask
   pub slot : w' .slot ≡ w .slot
   pub family : w' .family ≡ w .family
+  pub rounds : w' .rounds ≡ w .rounds
 
 -- the walk w' that a slot leaves of w
 pub data Next (us : List ℕ) (w w' : Walk) (list' : List ℕ) : Type 0 where
@@ -36,19 +37,13 @@ pub data Next (us : List ℕ) (w w' : Walk) (list' : List ℕ) : Type 0 where
   stops : {x : Walk} {t : ℕ} → Fixed us x list' t → Kept w x → (e : ℕ) → w' ≡ ended (suc e) x → Verdict us w' list' → Next us w w' list'
 
 pub kept : (w : Walk) → Kept w w
-kept w = record { level = refl; mask = refl; slot = refl; family = refl }
+kept w = record { level = refl; mask = refl; slot = refl; family = refl; rounds = refl }
 
 pub noted-kept : (w : Walk) (slot : Slot) → Kept w (noted w slot)
 unfolding noted counted marked remade
-noted-kept w Silent = record { level = refl; mask = refl; slot = refl; family = refl }
-noted-kept w Clashed = record { level = refl; mask = refl; slot = refl; family = refl }
-noted-kept w (Clean u) = record { level = refl; mask = refl; slot = refl; family = refl }
-
-pub noted-rounds : (w : Walk) (slot : Slot) → noted w slot .rounds ≡ w .rounds
-unfolding noted counted marked remade
-noted-rounds w Silent = refl
-noted-rounds w Clashed = refl
-noted-rounds w (Clean u) = refl
+noted-kept w Silent = record { level = refl; mask = refl; slot = refl; family = refl; rounds = refl }
+noted-kept w Clashed = record { level = refl; mask = refl; slot = refl; family = refl; rounds = refl }
+noted-kept w (Clean u) = record { level = refl; mask = refl; slot = refl; family = refl; rounds = refl }
 
 pub noted-ending : (w : Walk) (slot : Slot) → noted w slot .ending ≡ w .ending
 unfolding noted counted marked remade

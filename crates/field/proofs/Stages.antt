@@ -78,6 +78,16 @@ next-stage family tags us n w q obey steady h e f room count row (opens g s t y 
 next-stage family tags us n w q obey steady h e f room count row (stops {x} {t} g k d same verdict) =
     rest-of family tags us (suc n) w x q t d h g k same verdict row
 
+-- what a slot leaves of a walk that hears
+pub slot-leaves : (family : ℕ) (tags : List Tag) (p : Play) → ((i : ℕ) → getD (answering family tags) i 0 < 16 ^ 16)
+    → Fixed (answering family tags) (p .walk) (p .list) (p .walk .slot) → p .walk .slot < 16 → SlotPlayed family tags p (slotPlayed p)
+    → Next (answering family tags) (p .walk) (slotPlayed p .walk) (slotPlayed p .list)
+slot-leaves family tags p fit g h played =
+    let us : List ℕ = answering family tags in
+    let w : Walk = p .walk in
+    subst (λ (y : Walk). Next us w y (slotPlayed p .list)) (sym (played .walk))
+    (subst (λ (l : List ℕ). Next us w (walkAfter w (slotOf (called us w))) l) (sym (played .list)) (slot-next us w (p .list) fit h g))
+
 pub stage-slot : (family : ℕ) (tags : List Tag) (n : ℕ) (p : Play) → AllObey tags → ((i : ℕ) → getD (answering family tags) i 0 < 16 ^ 16)
     → Stage family tags (answering family tags) n p → Stage family tags (answering family tags) (suc n) (slotPlayed p)
 stage-slot family tags n p obey fit (hears g h e f room count row) =
@@ -85,10 +95,8 @@ stage-slot family tags n p obey fit (hears g h e f room count row) =
     let us : List ℕ = answering family tags in
     let played : SlotPlayed family tags p (slotPlayed p) =
     slot-played family tags p obey (walks-accepted w (p .list) (w .slot) h (g .walks)) (running-of w e) f (g .walks .places-fit) room row in
-    let next : Next us w (slotPlayed p .walk) (slotPlayed p .list) =
-    subst (λ (y : Walk). Next us w y (slotPlayed p .list)) (sym (played .walk))
-    (subst (λ (l : List ℕ). Next us w (walkAfter w (slotOf (called us w))) l) (sym (played .list)) (slot-next us w (p .list) fit h g)) in
-    next-stage family tags us n w (slotPlayed p) obey (g .walks .steady) h e f (rw (played .room) room) count (played .tags) next
+    next-stage family tags us n w (slotPlayed p) obey (g .walks .steady) h e f (rw (played .room) room) count (played .tags)
+    (slot-leaves family tags p fit g h played)
 stage-slot family tags n p obey fit (rests a r v row) =
     subst (λ (q : Play). Stage family tags (answering family tags) (suc n) q) (sym (ended-played p a r)) (rests a r v row)
 

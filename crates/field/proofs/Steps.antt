@@ -27,21 +27,21 @@ use Rattle.field.proofs.FixedField.{Fixed, note-fixed, next-fixed, open
 use Rattle.field.proofs.NoOverrun.{rounds-below}
 use Rattle.field.proofs.Called.{called, slotOf}
 use Rattle.field.proofs.CalledWeights.{slot-weight}
-use Rattle.field.proofs.Next.{Verdict, completes, twin, fills, Kept, Next, moves, opens, stops, kept, noted-kept, noted-rounds, noted-ending}
+use Rattle.field.proofs.Next.{Verdict, completes, twin, fills, Kept, Next, moves, opens, stops, kept, noted-kept, noted-ending}
 
 -- the next slot
-moves-after : (us : List ℕ) (w x : Walk) (list : List ℕ) → x .slot ≡ w .slot → Fixed us x list (suc (w .slot)) → Kept w x → x .rounds ≡ w .rounds
-    → x .ending ≡ w .ending → x .slot < 15 → Next us w (atNextSlot x) list
+moves-after : (us : List ℕ) (w x : Walk) (list : List ℕ) → x .slot ≡ w .slot → Fixed us x list (suc (w .slot)) → Kept w x → x .ending ≡ w .ending
+    → x .slot < 15 → Next us w (atNextSlot x) list
 unfolding atNextSlot remade
-moves-after us w x list s g k r e h =
-    moves (next-fixed us x list (suc (w .slot)) h g) (rw (← s) h) (k .level) (k .mask) (add-one (x .slot) ∙ ap suc s) (k .family) e r
+moves-after us w x list s g k e h =
+    moves (next-fixed us x list (suc (w .slot)) h g) (rw (← s) h) (k .level) (k .mask) (add-one (x .slot) ∙ ap suc s) (k .family) e (k .rounds)
 
 -- the next round
-opens-after : (us : List ℕ) (w x : Walk) (list : List ℕ) → w .slot ≡ 15 → Fixed us x list 16 → Kept w x → x .rounds ≡ w .rounds
-    → x .ending ≡ w .ending → (j : ℕ) → deepest (x .marks) ≡ suc j → x .rounds < 481 → Next us w (opened x j) list
+opens-after : (us : List ℕ) (w x : Walk) (list : List ℕ) → w .slot ≡ 15 → Fixed us x list 16 → Kept w x → x .ending ≡ w .ending
+    → (j : ℕ) → deepest (x .marks) ≡ suc j → x .rounds < 481 → Next us w (opened x j) list
 unfolding opened openedAt remade
-opens-after us w x list h g k r e j d f =
-    opens (open-fixed us x list j g d f) h refl (k .family) e (add-one (x .rounds) ∙ ap suc r)
+opens-after us w x list h g k e j d f =
+    opens (open-fixed us x list j g d f) h refl (k .family) e (add-one (x .rounds) ∙ ap suc (k .rounds))
 
 listed-few : (x : Walk) (list : List ℕ) → x .count ≤ 64 → length (take (x .count) list) ≤ 64
 listed-few x list h = rw (length-take (x .count) list) (omega arith)
@@ -65,27 +65,27 @@ completes-after us w x list g k d =
     stops g k 0 refl verdict
 
 -- a round is over: the next one is opened, since round 482 is never needed
-turns : (us : List ℕ) (w x : Walk) (list : List ℕ) → w .slot ≡ 15 → Fixed us x list 16 → Kept w x → x .rounds ≡ w .rounds → x .ending ≡ w .ending
+turns : (us : List ℕ) (w x : Walk) (list : List ℕ) → w .slot ≡ 15 → Fixed us x list 16 → Kept w x → x .ending ≡ w .ending
     → (n : ℕ) → deepest (x .marks) ≡ n → Next us w (turned x n) list
 unfolding turned mostRounds
-turns us w x list h g k r e zero d = completes-after us w x list g k d
-turns us w x list h g k r e (suc j) d =
+turns us w x list h g k e zero d = completes-after us w x list g k d
+turns us w x list h g k e (suc j) d =
     let few : x .rounds ≤ 479 =
     rounds-below us (take (x .count) list) x (g .walks .steady) (listed-few x list (g .walks .steady .accepted .count)) (g .weighed) (g .tails) in
-    rw (lt-ltb (x .rounds) 481 (omega arith)) (opens-after us w x list h g k r e j d (omega arith))
+    rw (lt-ltb (x .rounds) 481 (omega arith)) (opens-after us w x list h g k e j d (omega arith))
 
 -- the slot ends nothing at once
-passes : (us : List ℕ) (w x : Walk) (list : List ℕ) → w .slot < 16 → Fixed us x list (suc (w .slot)) → Kept w x → x .rounds ≡ w .rounds
+passes : (us : List ℕ) (w x : Walk) (list : List ℕ) → w .slot < 16 → Fixed us x list (suc (w .slot)) → Kept w x
     → x .ending ≡ w .ending → Next us w (passed x) list
 unfolding passed
-passes us w x list h g k r e = go (ltb (x .slot) 15) refl
+passes us w x list h g k e = go (ltb (x .slot) 15) refl
   where
     go : (b : Bool) → ltb (x .slot) 15 ≡ b → Next us w (cond b (atNextSlot x) (turned x (deepest (x .marks)))) list
-    go true f = moves-after us w x list (k .slot) g k r e (ltb-true (x .slot) 15 f)
+    go true f = moves-after us w x list (k .slot) g k e (ltb-true (x .slot) 15 f)
     go false f =
         let after : 15 ≤ x .slot = ltb-false (x .slot) 15 f in
         let last : w .slot ≡ 15 = let same = k .slot in omega (arith, same) in
-        turns us w x list last (subst (λ (t : ℕ). Fixed us x list t) (ap suc last) g) k r e (deepest (x .marks)) refl
+        turns us w x list last (subst (λ (t : ℕ). Fixed us x list t) (ap suc last) g) k e (deepest (x .marks)) refl
 
 -- a clean UID with 64 listed: the slot's own weight is one more
 fills-at : (us : List ℕ) (x : ℕ) (w : Walk) (list : List ℕ) → w .slot < 16 → Fixed us w list (w .slot) → called us w ≡ x ∷ [] → 64 ≤ w .count
@@ -139,6 +139,6 @@ slot-next us w list fits h g = go (eqb (endsAtOnce w (slotOf (called us w))) 0) 
     go : (b : Bool) → eqb (endsAtOnce w s) 0 ≡ b
         → Next us w (cond b (passed (noted w s)) (ended (endsAtOnce w s) w)) (cond b (listNoted w s list) list)
     go true e =
-        passes us w (noted w s) (listNoted w s list) h (note-fixed us w list h g (eqb-true (endsAtOnce w s) 0 e)) (noted-kept w s) (noted-rounds w s)
+        passes us w (noted w s) (listNoted w s list) h (note-fixed us w list h g (eqb-true (endsAtOnce w s) 0 e)) (noted-kept w s)
         (noted-ending w s)
     go false e = stops-at-once us (called us w) w list fits h g refl (eqb-false (endsAtOnce w s) 0 e)

@@ -1,6 +1,6 @@
 -- Demand 3: a fresh walk over a field of cards, and what it leaves of them.
-use Prim.Native.Nat.{ℕ, _+_, _*_, _≤_}
-use mathlib.Core.Bool.{true, cond}
+use Prim.Native.Nat.{ℕ, suc, _+_, _*_, _≤_}
+use mathlib.Core.Bool.{true, false, cond}
 use mathlib.Core.List.{List, [], _∷_}
 use mathlib.Core.Path.{_≡_}
 use lib.ListN.{length}
@@ -59,3 +59,10 @@ roundsCounted =
     (family : ℕ) (tags : List Tag) (list room : List ℕ) → AllObey tags → 64 ≤ length list → 14 ≤ length room → (n : ℕ)
     → let w : Walk = playedFor n (fresh family list room tags) .walk in
     isRunning w ≡ true → 16 * w .rounds + w .slot ≡ 16 + n
+
+-- 01: "An ending changes only the ending itself: .. rounds stay as that slot found them": whatever the ending, the rounds are those that were played
+unfoldable pub roundsKept : Type 0
+roundsKept =
+    (family : ℕ) (tags : List Tag) (list room : List ℕ) → AllObey tags → 64 ≤ length list → 14 ≤ length room → (n : ℕ)
+    → isRunning (playedFor (suc n) (fresh family list room tags) .walk) ≡ false
+    → playedFor (suc n) (fresh family list room tags) .walk .rounds ≡ playedFor n (fresh family list room tags) .walk .rounds
