@@ -44,7 +44,7 @@ extern "C" {
  * returns the number of the archive's own version: if it is not EK_VERSION,
  * header and archive do not belong together. Refuses nothing.
  */
-#define EK_VERSION_MAJOR 1
+#define EK_VERSION_MAJOR 2
 #define EK_VERSION_MINOR 0
 #define EK_VERSION_PATCH 0
 #define EK_VERSION                                                             \

@@ -16,7 +16,7 @@ use crate::in_place::minus;
 use play::Served;
 
 // The version, as the file VERSION and the header have it.
-const MAJOR: u32 = 1;
+const MAJOR: u32 = 2;
 
 const MINOR: u32 = 0;
 
