@@ -145,6 +145,8 @@ static void orders_of_tracks(void)
          EK_REFUSED_FRAME_OR_CODING);
     MUST(ek_code(frame, 1, EK_ONE_OF_256 + 1, track, 0) ==
          EK_REFUSED_FRAME_OR_CODING);
+    MUST(ek_code(frame, 1, 256, track, sizeof track) ==
+         EK_REFUSED_FRAME_OR_CODING);
     MUST(ek_code(frame, 1, EK_ONE_OF_4, track, sizeof track - 1) ==
          EK_REFUSED_ROOM);
     MUST(ek_code(frame, 1, EK_ONE_OF_4, track, sizeof track) ==
