@@ -57,7 +57,7 @@ demo:
 	@rt check bench >target/demo.log 2>&1 & rt=$$!; \
 	    tail -n +1 -f --pid=$$rt target/demo.log | sed -un 's/^rt: \([a-z]* proved .*\)/\1/p'; \
 	    wait $$rt || { cat target/demo.log; echo 'The bench was not built; target/demo.log has the lines above.'; exit 1; }
-	@target/bin/bench <examples/fields/three.txt
+	@tools/x86-64 >/dev/null && target/bin/bench <examples/fields/three.txt
 
 demo-c: inventory
 
