@@ -4,7 +4,7 @@
 use mathlib.Core.Path.{_≡_}
 use mathlib.Core.Bool.{true, false, _&&_}
 use mathlib.Core.List.{List}
-use Prim.Native.Nat.{ℕ, _+_, _-_, _*_, _%_, _^_, _≤_, _<_}
+use Prim.Native.Nat.{ℕ, suc, _+_, _-_, _*_, _%_, _^_, _≤_, _<_}
 use lib.Dec.{eqb}
 use lib.IntN.{ℤ, pos}
 use lib.ListN.{length, take, getD}
@@ -56,10 +56,11 @@ use Rattle.field.specs.Field.{Tag, Arrival, Obeys, answers, answering}
 use Rattle.field.specs.Played.{playedFor, fresh}
 use Rattle.field.specs.Answering.{isHeard, heardOnce}
 use Rattle.field.specs.Replies.{heardAll, Holds, anyReplies}
-use Rattle.field.specs.Demand.{AllObey, Demand3, demand3, roundsCounted}
+use Rattle.field.specs.Demand.{AllObey, Demand3, demand3, roundsCounted, roundsKept}
 use Rattle.field.specs.Examples.{FieldOfThree}
 use Rattle.field.proofs.AnyWalk.{judged-fits, walk-of-any-replies}
-use Rattle.field.proofs.Demand3.{walk-of-a-field, rounds-of-a-field}
+use Rattle.field.proofs.Demand3.{walk-of-a-field}
+use Rattle.field.proofs.Rounds.{rounds-of-a-field, rounds-after-a-field}
 use Rattle.field.proofs.Answering.{card-heard-once}
 use Rattle.field.proofs.Examples.{field-of-three}
 use Rattle.row.specs.Row.{cardsOf}
@@ -222,6 +223,13 @@ counting-rounds : (family : ℕ) (tags : List Tag) (list room : List ℕ) → Al
     isRunning w ≡ true → 16 * w .rounds + w .slot ≡ 16 + n
 unfolding roundsCounted
 counting-rounds = rounds-of-a-field
+
+-- And an ending, whichever it is, leaves the round count as that slot found it.
+rounds-at-the-end : (family : ℕ) (tags : List Tag) (list room : List ℕ) → AllObey tags → 64 ≤ length list → 14 ≤ length room → (n : ℕ)
+    → isRunning (playedFor (suc n) (fresh family list room tags) .walk) ≡ false
+    → playedFor (suc n) (fresh family list room tags) .walk .rounds ≡ playedFor n (fresh family list room tags) .walk .rounds
+unfolding roundsKept
+rounds-at-the-end = rounds-after-a-field
 
 -- The cards that answer a family are just those that are heard: a card in any state hears a fresh walk's request and then fifteen slot marks; it is
 -- heard in one of these sixteen slots, that of its UID's lowest digit, if it answers, else in none.
