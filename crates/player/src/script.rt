@@ -17,7 +17,7 @@ pub(crate) enum Event {
     Off,
 }
 
-// What a line after the card's orders.
+// What a line asks for once there is a card.
 enum Order {
     Play(Event),
     Memory,
