@@ -1,21 +1,16 @@
 // The card on the desk: an event is played, and what came of it is told.
 ghost use Prim.Native.Nat.{_≤_};
+use crate::script::Desk;
 use crate::script::Event;
+use crate::script::after;
 use crate::told::tell;
 use crate::told::tell_blocks;
-use crate::told::tell_row;
 use crate::up_to;
 use card::Card;
 use play::Served;
 
 // The room for the longest answer, as number 4 has it: 3 and, for each of 256 blocks, its lock byte and 32 bytes.
 const ROOM: usize = 8451;
-
-// The card after an event, and whether that was told.
-pub(crate) struct Played {
-    pub(crate) card: Card,
-    pub(crate) is_told: bool,
-}
 
 // One number of the card's shape, or 0 where it is over its limit: the card refuses such a shape.
 fn within(n: u32, most: usize) -> usize
@@ -57,7 +52,7 @@ pub(crate) fn play(
     card: Card,
     memory: &mut [u8],
     locks: &mut [u8],
-) -> Played {
+) -> Desk {
     let mut room = [0u8; ROOM];
     let m = up_to(cells(card), memory);
     let n = up_to(within(card.blocks, 256), locks);
@@ -70,10 +65,7 @@ pub(crate) fn play(
         &mut room,
     );
     let next = served.card;
-    Played {
-        card: next,
-        is_told: tell(line, served, &room),
-    }
+    after(next, tell(line, served, &room))
 }
 
 // Shows the card's memory, a line a block.
@@ -82,8 +74,8 @@ pub(crate) fn show_memory(line: &[u8], card: Card, memory: &[u8]) -> bool {
     tell_blocks(line, within(card.size, 32), &memory[..m])
 }
 
-// Shows the card's lock bytes.
+// Shows the card's lock bytes, on one line.
 pub(crate) fn show_locks(line: &[u8], card: Card, locks: &[u8]) -> bool {
     let n = up_to(within(card.blocks, 256), locks);
-    tell_row(line, &locks[..n])
+    tell_blocks(line, 256, &locks[..n])
 }

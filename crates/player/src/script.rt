@@ -17,7 +17,7 @@ pub(crate) enum Event {
     Off,
 }
 
-// What a line after the card's orders.
+// What a line asks for once there is a card.
 enum Order {
     Play(Event),
     Memory,
@@ -108,7 +108,7 @@ pub(crate) struct Desk {
 }
 
 // The desk after a line that was told, or could not be.
-fn after(card: Card, is_told: bool) -> Desk {
+pub(crate) fn after(card: Card, is_told: bool) -> Desk {
     if is_told {
         return Desk {
             card: card,
@@ -152,11 +152,7 @@ impl Desk {
         let card = self.card;
         let order = order_of(line, &mut frame);
         match order {
-            Order::Play(event) => {
-                let played = play(event, line, &frame, card, memory, locks);
-                let next = played.card;
-                after(next, played.is_told)
-            }
+            Order::Play(event) => play(event, line, &frame, card, memory, locks),
             Order::Memory => after(card, show_memory(line, card, memory)),
             Order::Locks => after(card, show_locks(line, card, locks)),
             Order::Wrong => self.ended(Stage::BadLine),
@@ -183,9 +179,7 @@ impl Desk {
         let stage = self.stage;
         match stage {
             Stage::NoCard => self.hear_card(line),
-            Stage::Card => self.hear_order(line, memory, locks),
-            Stage::BadLine => self,
-            Stage::Failed => self,
+            _ => self.hear_order(line, memory, locks),
         }
     }
 
@@ -194,19 +188,15 @@ impl Desk {
         match stage {
             Stage::NoCard => false,
             Stage::Card => false,
-            Stage::BadLine => true,
-            Stage::Failed => true,
+            _ => true,
         }
     }
 
     // Tells the number of a line that can't be read.
     pub(crate) fn tell_end(self, number: u64) {
         let stage = self.stage;
-        match stage {
-            Stage::NoCard => {}
-            Stage::Card => {}
-            Stage::BadLine => tell_bad_line(number),
-            Stage::Failed => {}
+        if let Stage::BadLine = stage {
+            tell_bad_line(number);
         }
     }
 }

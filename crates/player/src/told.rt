@@ -143,16 +143,16 @@ fn put_answer(number: u8, answer: &[u8], text: &mut [u8], at: usize) -> usize {
     put_pairs(answer, text, at)
 }
 
-// Puts blocks of so many bytes, each on a line.
-fn put_blocks(size: usize, memory: &[u8], text: &mut [u8], at: usize) -> usize {
+// Puts bytes, so many on a line.
+fn put_blocks(size: usize, bytes: &[u8], text: &mut [u8], at: usize) -> usize {
     if size == 0 {
         return at;
     }
     let mut next = at;
     let mut from = 0;
-    while from < memory.len() {
-        let to = from + least(size, memory.len() - from);
-        next = put_pairs(&memory[from..to], text, next);
+    while from < bytes.len() {
+        let to = from + least(size, bytes.len() - from);
+        next = put_pairs(&bytes[from..to], text, next);
         from = to;
     }
     next
@@ -179,19 +179,11 @@ pub(crate) fn tell(line: &[u8], served: Served, room: &[u8]) -> bool {
     write(&mut text, record)
 }
 
-// Tells a line of the script, and bytes.
-pub(crate) fn tell_row(line: &[u8], bytes: &[u8]) -> bool {
+// Tells a line of the script, and bytes, so many on a line.
+pub(crate) fn tell_blocks(line: &[u8], size: usize, bytes: &[u8]) -> bool {
     let mut text = [0u8; MOST_TOLD];
     let heard = put(line, &mut text, 0);
-    let end = put_pairs(bytes, &mut text, heard);
-    write(&mut text, end)
-}
-
-// Tells a line of the script, and blocks.
-pub(crate) fn tell_blocks(line: &[u8], size: usize, memory: &[u8]) -> bool {
-    let mut text = [0u8; MOST_TOLD];
-    let heard = put(line, &mut text, 0);
-    let end = put_blocks(size, memory, &mut text, heard);
+    let end = put_blocks(size, bytes, &mut text, heard);
     write(&mut text, end)
 }
 

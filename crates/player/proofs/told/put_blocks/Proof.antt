@@ -1,5 +1,5 @@
--- `player::told::put_blocks` is safe and ends. The loop's invariant: the text keeps its length, and the place is within memory. The measure is the
--- memory that is left. Assumes nothing.
+-- `player::told::put_blocks` is safe and ends. The loop's invariant: the text keeps its length, and the place is within the bytes. The measure is how
+-- many bytes are left. Assumes nothing.
 use native.Mathlib.Omega.{arith}
 use mathlib.Core.Path.{_≡_, refl}
 use Prim.Native.Nat.{_-_, _≤_}
@@ -8,10 +8,10 @@ use Rattle.player.proofs.told.put_blocks.Statement.{statement}
 use Rattle.player.proofs.told.put_blocks.Tie as tie
 
 abbrev Inv-loop : tie.InvT-loop
-Inv-loop size memory text₀ at next₀ from₀ text next from = (from ≤ length memory) × (length text ≡ length text₀)
+Inv-loop size bytes text₀ at next₀ from₀ text next from = (from ≤ length bytes) × (length text ≡ length text₀)
 
 abbrev μ-loop : tie.MeasureT-loop
-μ-loop size memory text₀ at next₀ from₀ text next from = length memory - from
+μ-loop size bytes text₀ at next₀ from₀ text next from = length bytes - from
 
 returns : tie.Need-returns Inv-loop μ-loop
 returns c = tt

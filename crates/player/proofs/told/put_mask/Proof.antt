@@ -27,8 +27,9 @@ same-length c = search needs
 returns : tie.Need-returns
 unfolding maskText
 returns c =
-    let field = c .before .before .before .before .before .before .before .put-field in
-    let bytes = field-filled (c .before .before .before .before .before .before .before .before .before .before .args .mask) _ (field .last .0) (field .ensures) (omega arith) in
+    let field = c .before .before .before .before .before .before .before in
+    let mask = field .before .before .before .args .mask in
+    let bytes = field-filled mask _ (field .put-field .last .0) (field .put-field .ensures) (omega arith) in
     rw bytes at (c .before .before .put-row .ensures)
 
 pub put-mask-spec : {M : Type 1} → statement M

@@ -32,12 +32,12 @@ same-length c = search needs
 returns : tie.Need-returns
 unfolding recordText
 returns c =
-    let mode = c .before .before .before .before .before .before .before .before .before .before .before .before .before .before .before .before .before .before .before .before .put-mode in
-    let sequence = c .before .before .before .before .before .before .before .before .before .before .before .before .before .before .before .before .put-sequence in
-    let held = c .before .before .before .before .before .before .before .before .before .before .before .before .put-held in
-    let afi = c .before .before .before .before .before .before .before .put-kept in
-    let first = adds-then (mode .ensures) (sequence .ensures) in
-    let second = adds-then (adds-then first (held .ensures)) (afi .ensures) in
+    let afi = c .before .before .before .before .before .before .before in
+    let held = afi .before .before .before .before .before in
+    let sequence = held .before .before .before .before in
+    let mode = sequence .before .before .before .before in
+    let first = adds-then (mode .put-mode .ensures) (sequence .put-sequence .ensures) in
+    let second = adds-then (adds-then first (held .put-held .ensures)) (afi .put-kept .ensures) in
     adds-then second (c .before .before .put-kept2 .ensures)
 
 pub put-record-spec : {M : Type 1} → statement M

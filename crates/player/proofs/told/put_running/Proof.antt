@@ -26,8 +26,9 @@ same-length c = search needs
 returns : tie.Need-returns
 unfolding runningText
 returns c =
-    let size = c .before .before .before .before .before .before .put-pair2 in
-    adds-then (adds-then (c .before .before .before .before .before .before .before .before .before .before .before .put-pair .ensures) (size .ensures)) (c .before .before .put-mask .ensures)
+    let size = c .before .before .before .before .before .before in
+    let slot = size .before .before .before .before .before in
+    adds-then (adds-then (slot .put-pair .ensures) (size .put-pair2 .ensures)) (c .before .before .put-mask .ensures)
 
 pub put-running-spec : {M : Type 1} → statement M
 put-running-spec =
