@@ -1,6 +1,4 @@
 // What a program reads: standard input, or the file that its argument names. A read that fails is told, and is not the end of the input.
-ghost use Prim.Native.Nat.{_≤_};
-ghost use lib.ListN.{length};
 ghost use mathlib.Core.Bool.{cond};
 ghost use mathlib.Core.Path.{_≡_};
 ghost use Rattle.io.specs.Counts.{Counts};
