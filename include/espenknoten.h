@@ -500,8 +500,9 @@ int64_t ek_walk_ask(const struct ek_walk *walk, uint8_t *request, size_t room);
  * them, sealed, they begin with EK_ANSWER_SUCCESS, and their UID fits mask and
  * slot; all else is a clash. Returns 0. The record is then that of the next
  * slot, or of the next round, or an ending has been noted in it; the UID of a
- * clean reply stands in list at the place that walk->count had, and no other
- * place changes. Only the first EK_LIST_PLACES places are used.
+ * clean reply, unless the walk ends EK_WALK_FULL at it, stands in list at the
+ * place that walk->count had, and no other place changes. Only the first
+ * EK_LIST_PLACES places are used.
  * In this order EK_REFUSED_WALK, EK_REFUSED_ENDED, EK_REFUSED_LIST: the record
  * and the list stay as they are.
  */

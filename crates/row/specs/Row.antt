@@ -78,7 +78,7 @@ stillAir = record { answers = 0; dsfid = 0; uid = 0 }
 unfoldable pub crowded : Air → Air
 crowded air = record { answers = 2; dsfid = air .dsfid; uid = air .uid }
 
--- one card more answers. An answer that is no inventory answer is heard as a clash, since it is not 12 bytes long
+-- one card more answers. The walk sends inventory requests alone, so that no other answer comes; it would be heard as a clash
 unfoldable pub airWith : Air → Card → Reply → Air
 airWith air c reply.Silence = air
 airWith air c (reply.Error code) = crowded air
