@@ -1,12 +1,16 @@
 /*
- * The library's check, coder, decoder and card beside the same in plain C.
- * Both take turns at the clock. The script run makes a table of what is
- * printed here.
+ * The library's check, coder, decoder and card beside the same in plain C, and
+ * its decoder beside the best one that we know too. All take turns at the
+ * clock. The script run makes a table of what is printed here.
+ *
+ *     bench time|same
  */
+#include <stdbool.h>
 #include <stdio.h>
 #include <stdlib.h>
 #include <string.h>
 
+#include "best.h"
 #include "espenknoten.h"
 #include "plain.h"
 #include "same.h"
@@ -33,6 +37,7 @@ static const struct side SIDES[] = {
     [OURS] = {ek_check, ek_code, ek_decode, ek_card_frame, ek_card_mark},
     [PLAIN] = {plain_check, plain_code, plain_decode, plain_card_frame,
                plain_card_mark},
+    [BEST] = {.decode = best_decode},
 };
 
 enum task { CHECK, CODE, DECODE, FRAME, MARK };
@@ -127,6 +132,11 @@ static const char *name(size_t i)
     return ROWS[i].name;
 }
 
+static bool has_best(size_t i)
+{
+    return ROWS[i].task == DECODE;
+}
+
 /* What a row's turn works on. */
 static void prepare(size_t i)
 {
@@ -183,15 +193,19 @@ static double turn(size_t i, enum who who, unsigned passes)
     return spent;
 }
 
-int main(void)
+int main(int count, char **given)
 {
+    bool timed = asked_for_times(count, given);
     fill_frames();
     for (size_t f = 0; f < FRAMES; f++) {
         must_be_same(frames[f]);
     }
     must_refuse_same(frames[0]);
     must_play_same();
-    fill_cards();
-    compete(&(struct contest){ROW_COUNT, FRAMES, name, prepare, turn});
+    if (timed) {
+        fill_cards();
+        compete(&(struct contest){ROW_COUNT, FRAMES, name, has_best, prepare,
+                                  turn});
+    }
     return 0;
 }

@@ -1,5 +1,6 @@
 /* A benchmark of two programs that do different things says nothing: these end
- * the run with a message where the library and plain C differ. */
+ * the run with a message where the library, plain C and the best decoder
+ * differ. */
 #ifndef SAME_H
 #define SAME_H
 
@@ -8,7 +9,7 @@
 /* A frame of EK_FRAME_MAX bytes and its first bytes: check, track and back. */
 void must_be_same(const uint8_t *frame);
 
-/* Short rooms, wrong codings, tracks cut short and tracks damaged. */
+/* Short rooms, wrong codings, tracks cut short, damaged and too long. */
 void must_refuse_same(const uint8_t *frame);
 
 /* Cards through many frames, slot marks and power offs, some of them refused. */

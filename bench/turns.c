@@ -4,6 +4,7 @@
 
 #include <stdio.h>
 #include <stdlib.h>
+#include <string.h>
 #include <time.h>
 
 double now_ns(void)
@@ -25,13 +26,38 @@ static double median(double *values)
     return values[ROUNDS / 2];
 }
 
+bool no_best(size_t row)
+{
+    (void)row;
+    return false;
+}
+
+bool asked_for_times(int count, char **given)
+{
+    if (count > 1 && strcmp(given[1], "time") == 0) {
+        return true;
+    }
+    if (count > 1 && strcmp(given[1], "same") == 0) {
+        return false;
+    }
+    fprintf(stderr, "bench: the first word is time or same\n");
+    exit(2);
+}
+
+/* Ours, plain and, where it takes part, best. */
+static int sides(const struct contest *contest, size_t row)
+{
+    return contest->has_best(row) ? WHO_COUNT : BEST;
+}
+
 static unsigned passes_for(const struct contest *contest, size_t row)
 {
     unsigned passes = 1;
     contest->prepare(row);
-    while (contest->turn(row, OURS, passes) < TURN_NS ||
-           contest->turn(row, PLAIN, passes) < TURN_NS) {
-        passes *= 2;
+    for (int who = 0; who < sides(contest, row); who++) {
+        while (contest->turn(row, (enum who)who, passes) < TURN_NS) {
+            passes *= 2;
+        }
     }
     return passes;
 }
@@ -40,24 +66,30 @@ static unsigned passes_for(const struct contest *contest, size_t row)
  * falls on all of them. Who goes first changes from round to round. */
 void compete(const struct contest *contest)
 {
-    static double spent[ROWS_MAX][2][ROUNDS];
+    static double spent[ROWS_MAX][WHO_COUNT][ROUNDS];
     static unsigned passes[ROWS_MAX];
     for (size_t row = 0; row < contest->rows; row++) {
         passes[row] = passes_for(contest, row);
     }
     for (int round = 0; round < ROUNDS; round++) {
-        enum who first = round % 2 == 0 ? OURS : PLAIN;
-        enum who second = round % 2 == 0 ? PLAIN : OURS;
         for (size_t row = 0; row < contest->rows; row++) {
+            int count = sides(contest, row);
             contest->prepare(row);
-            spent[row][first][round] = contest->turn(row, first, passes[row]);
-            spent[row][second][round] = contest->turn(row, second, passes[row]);
+            for (int i = 0; i < count; i++) {
+                enum who who = (enum who)((round + i) % count);
+                spent[row][who][round] = contest->turn(row, who, passes[row]);
+            }
         }
     }
     for (size_t row = 0; row < contest->rows; row++) {
         double units = (double)passes[row] * contest->unit;
-        printf("%s|%.3f|%.3f\n", contest->name(row),
+        printf("%s|%.3f|%.3f|", contest->name(row),
                median(spent[row][OURS]) / units,
                median(spent[row][PLAIN]) / units);
+        if (contest->has_best(row)) {
+            printf("%.3f\n", median(spent[row][BEST]) / units);
+        } else {
+            printf("-\n");
+        }
     }
 }

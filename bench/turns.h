@@ -4,6 +4,7 @@
 #ifndef TURNS_H
 #define TURNS_H
 
+#include <stdbool.h>
 #include <stddef.h>
 
 #define ROUNDS 51
@@ -12,21 +13,30 @@
  * weigh much in it. */
 #define TURN_NS 1e6
 
-enum who { OURS, PLAIN };
+enum who { OURS, PLAIN, BEST, WHO_COUNT };
 
-/* What is measured: so many rows, each with a name. A row is prepared before
- * each of its turns; a turn makes a number of passes and tells the nanoseconds.
- * Those of a pass, divided by unit, are the row's time. */
+/* What is measured: so many rows, each with a name, and whether BEST takes part
+ * in it. A row is prepared before each of its turns; a turn makes a number of
+ * passes and tells the nanoseconds. Those of a pass, divided by unit, are the
+ * row's time. */
 struct contest {
     size_t rows;
     double unit;
     const char *(*name)(size_t row);
+    bool (*has_best)(size_t row);
     void (*prepare)(size_t row);
     double (*turn)(size_t row, enum who who, unsigned passes);
 };
 
-/* Measures, and prints a line a row: what, ours and plain. */
+/* Measures, and prints a line a row: what, ours, plain, and best or a dash. */
 void compete(const struct contest *contest);
+
+/* For rows of two. */
+bool no_best(size_t row);
+
+/* A program's first word: "time", or "same", with which it holds ours against
+ * plain C and measures nothing. */
+bool asked_for_times(int count, char **given);
 
 double now_ns(void);
 

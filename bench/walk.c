@@ -4,6 +4,8 @@
  * with "direct" have C that changes every field through the pointer. All first
  * go through many fields side by side and must never differ. The script run
  * makes a table of what is printed here.
+ *
+ *     walk time|same
  */
 #include <stdbool.h>
 #include <stdio.h>
@@ -245,10 +247,14 @@ static double turn(size_t i, enum who who, unsigned passes)
     return spent;
 }
 
-int main(void)
+int main(int count, char **given)
 {
+    bool timed = asked_for_times(count, given);
     compare_walks(&SAME_FORM);
     compare_walks(&DIRECT);
-    compete(&(struct contest){ROW_COUNT, STEPS, name, prepare, turn});
+    if (timed) {
+        compete(&(struct contest){ROW_COUNT, STEPS, name, no_best, prepare,
+                                  turn});
+    }
     return 0;
 }

@@ -2,7 +2,7 @@
  * Whole runs of the bench program and of the plain one, from start to exit,
  * with what they print read from a pipe:
  *
- *     whole OURS PLAIN EMPTY WORST FIELD..
+ *     whole time|same OURS PLAIN EMPTY WORST FIELD..
  *
  * Measured are a field of 64 random UIDs, the field WORST, and the program
  * EMPTY, which does nothing, beside itself. On the two fields and on all other
@@ -29,7 +29,7 @@
 
 struct row {
     const char *name;
-    const char *program[2];
+    const char *program[BEST];
     int field;
 };
 
@@ -146,18 +146,21 @@ static double turn(size_t row, enum who who, unsigned passes)
 
 int main(int count, char **given)
 {
-    must(count >= 5, "usage: whole OURS PLAIN EMPTY WORST FIELD..");
-    const char *ours = given[1], *plain = given[2], *empty = given[3];
-    int random = random_field(), worst = stored_field(given[4]);
+    bool timed = asked_for_times(count, given);
+    must(count >= 6, "usage: whole time|same OURS PLAIN EMPTY WORST FIELD..");
+    const char *ours = given[2], *plain = given[3], *empty = given[4];
+    int random = random_field(), worst = stored_field(given[5]);
     rows[RANDOM] = (struct row){"64 random UIDs", {ours, plain}, random};
     rows[WORST] = (struct row){"worst field of 64", {ours, plain}, worst};
     rows[EMPTY] = (struct row){"empty program", {empty, empty}, worst};
     must_print_same(random, rows[RANDOM].name);
-    for (int i = 4; i < count; i++) {
+    for (int i = 5; i < count; i++) {
         int field = stored_field(given[i]);
         must_print_same(field, given[i]);
         close(field);
     }
-    compete(&(struct contest){ROW_COUNT, US, name, prepare, turn});
+    if (timed) {
+        compete(&(struct contest){ROW_COUNT, US, name, no_best, prepare, turn});
+    }
     return 0;
 }

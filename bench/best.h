@@ -1,0 +1,13 @@
+/* The decoder in the best plain C that we know, with the answers of
+ * espenknoten.h: the second peer that the benchmark measures the library
+ * against. */
+#ifndef BEST_H
+#define BEST_H
+
+#include <stddef.h>
+#include <stdint.h>
+
+int64_t best_decode(const uint8_t *track, size_t length, uint8_t *frame,
+                    size_t room);
+
+#endif
