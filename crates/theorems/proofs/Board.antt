@@ -46,81 +46,86 @@ use Rattle.theorems.proofs.Kept.{kept}
 module _ {M : Type 1} (𝓤 : URA M) (H : Heap 𝓤) (A : Atoms 𝓤) (mem : Memory → SProp 𝓤) (run : Routine → Fun 𝓤) where
   -- ---- board
 
-  ek-version-contract : Contract 𝓤 ek-version.ended (ek-version.clauses 𝓤 H A mem run) (λ κs a r e. r ≡ version)
-  ek-version-contract = kept 𝓤 ek-version.ended _ _ (λ κs a. (tt, id⊢ 𝓤 _)) (λ κs a g r e. id⊢ 𝓤 _) (λ κs a r s x y p q. (p ∙ sym q, refl))
+  ek-version-contract : Contract 𝓤 H A ek-version.ended (ek-version.spec 𝓤 H A mem run) (ek-version.clauses 𝓤 H A mem run)
+      (λ κs a r e. r ≡ version)
+  ek-version-contract = kept 𝓤 H A ek-version.ended _ _ _ refl (λ κs a. (tt, id⊢ 𝓤 _)) (λ κs a g r e. id⊢ 𝓤 _) (λ κs a r s x y p q. (p ∙ sym q, refl))
 
-  ek-check-contract : Contract 𝓤 ek-check.ended (ek-check.clauses 𝓤 H A mem run) (λ κs a r e. r ≡ checkOf (now (a .0)))
-  ek-check-contract = kept 𝓤 ek-check.ended _ _ (λ κs a. (tt, id⊢ 𝓤 _)) (λ κs a g r e. id⊢ 𝓤 _) (λ κs a r s x y p q. (p ∙ sym q, refl))
+  ek-check-contract : Contract 𝓤 H A ek-check.ended (ek-check.spec 𝓤 H A mem run) (ek-check.clauses 𝓤 H A mem run)
+      (λ κs a r e. r ≡ checkOf (now (a .0)))
+  ek-check-contract = kept 𝓤 H A ek-check.ended _ _ _ refl (λ κs a. (tt, id⊢ 𝓤 _)) (λ κs a g r e. id⊢ 𝓤 _) (λ κs a r s x y p q. (p ∙ sym q, refl))
 
-  ek-is-sound-contract : Contract 𝓤 ek-is-sound.ended (ek-is-sound.clauses 𝓤 H A mem run) (λ κs a r e. r ≡ isSound (now (a .0)))
-  ek-is-sound-contract = kept 𝓤 ek-is-sound.ended _ _ (λ κs a. (tt, id⊢ 𝓤 _)) (λ κs a g r e. id⊢ 𝓤 _) (λ κs a r s x y p q. (p ∙ sym q, refl))
+  ek-is-sound-contract : Contract 𝓤 H A ek-is-sound.ended (ek-is-sound.spec 𝓤 H A mem run) (ek-is-sound.clauses 𝓤 H A mem run)
+      (λ κs a r e. r ≡ isSound (now (a .0)))
+  ek-is-sound-contract = kept 𝓤 H A ek-is-sound.ended _ _ _ refl (λ κs a. (tt, id⊢ 𝓤 _)) (λ κs a g r e. id⊢ 𝓤 _) (λ κs a r s x y p q. (p ∙ sym q, refl))
 
-  ek-seal-contract : Contract 𝓤 ek-seal.ended (ek-seal.clauses 𝓤 H A mem run) (λ κs a r e. Seals (now (a .0)) (a .1 .0) r (now (e .0)))
+  ek-seal-contract : Contract 𝓤 H A ek-seal.ended (ek-seal.spec 𝓤 H A mem run) (ek-seal.clauses 𝓤 H A mem run)
+      (λ κs a r e. Seals (now (a .0)) (a .1 .0) r (now (e .0)))
   ek-seal-contract =
-      kept 𝓤 ek-seal.ended _ _ (λ κs a. (tt, id⊢ 𝓤 _)) (λ κs a g r e. id⊢ 𝓤 _)
+      kept 𝓤 H A ek-seal.ended _ _ _ refl (λ κs a. (tt, id⊢ 𝓤 _)) (λ κs a g r e. id⊢ 𝓤 _)
       (λ κs a r s x y p q. let u : _ = seal-unique p q in (u .0, λ i. (u .1 i, (tt, tt))))
 
-  ek-code-contract : Contract 𝓤 ek-code.ended (ek-code.clauses 𝓤 H A mem run)
+  ek-code-contract : Contract 𝓤 H A ek-code.ended (ek-code.spec 𝓤 H A mem run) (ek-code.clauses 𝓤 H A mem run)
       (λ κs a r e. Codes (now (a .0)) (a .1 .0) (now (a .1 .1 .0)) r (now (e .1 .1 .0)))
   ek-code-contract =
-      kept 𝓤 ek-code.ended _ _ (λ κs a. (tt, id⊢ 𝓤 _)) (λ κs a g r e. id⊢ 𝓤 _)
+      kept 𝓤 H A ek-code.ended _ _ _ refl (λ κs a. (tt, id⊢ 𝓤 _)) (λ κs a g r e. id⊢ 𝓤 _)
       (λ κs a r s x y p q. let u : _ = code-unique p q in (u .0, λ i. (tt, (tt, (u .1 i, tt)))))
 
-  ek-decode-contract : Contract 𝓤 ek-decode.ended (ek-decode.clauses 𝓤 H A mem run)
+  ek-decode-contract : Contract 𝓤 H A ek-decode.ended (ek-decode.spec 𝓤 H A mem run) (ek-decode.clauses 𝓤 H A mem run)
       (λ κs a r e. Decodes (now (a .0)) (now (a .1 .0)) r (now (e .1 .0)))
   ek-decode-contract =
-      kept 𝓤 ek-decode.ended _ _ (λ κs a. (tt, id⊢ 𝓤 _)) (λ κs a g r e. id⊢ 𝓤 _)
+      kept 𝓤 H A ek-decode.ended _ _ _ refl (λ κs a. (tt, id⊢ 𝓤 _)) (λ κs a g r e. id⊢ 𝓤 _)
       (λ κs a r s x y p q. let u : _ = decode-unique p q in (u .0, λ i. (tt, (u .1 i, tt))))
 
-  ek-card-frame-contract : Contract 𝓤 ek-card-frame.ended (ek-card-frame.clauses 𝓤 H A mem run)
+  ek-card-frame-contract : Contract 𝓤 H A ek-card-frame.ended (ek-card-frame.spec 𝓤 H A mem run) (ek-card-frame.clauses 𝓤 H A mem run)
       (λ κs a r e.
       Gives (frameCall (now (a .0)) (now (a .1 .0)) (now (a .1 .1 .0)) (now (a .1 .1 .1 .0)) (now (a .1 .1 .1 .1 .0)))
       r (now (e .0)) (now (e .1 .1 .0)) (now (e .1 .1 .1 .0)) (now (e .1 .1 .1 .1 .0)))
   ek-card-frame-contract =
-      kept 𝓤 ek-card-frame.ended _ _ (λ κs a. (tt, id⊢ 𝓤 _)) (λ κs a g r e. id⊢ 𝓤 _)
+      kept 𝓤 H A ek-card-frame.ended _ _ _ refl (λ κs a. (tt, id⊢ 𝓤 _)) (λ κs a g r e. id⊢ 𝓤 _)
       (λ κs a r s x y p q. let u : _ = gives-unique _ r s _ _ _ _ _ _ _ _ p q in (u .0, λ i. (u .1 i, (tt, (u .2 i, (u .3 i, (u .4 i, tt)))))))
 
-  ek-card-mark-contract : Contract 𝓤 ek-card-mark.ended (ek-card-mark.clauses 𝓤 H A mem run)
+  ek-card-mark-contract : Contract 𝓤 H A ek-card-mark.ended (ek-card-mark.spec 𝓤 H A mem run) (ek-card-mark.clauses 𝓤 H A mem run)
       (λ κs a r e.
       Gives (markCall (now (a .0)) (now (a .1 .0)) (now (a .1 .1 .0)) (now (a .1 .1 .1 .0)))
       r (now (e .0)) (now (a .1 .0)) (now (a .1 .1 .0)) (now (e .1 .1 .1 .0)))
   ek-card-mark-contract =
-      kept 𝓤 ek-card-mark.ended _ _ (λ κs a. (tt, id⊢ 𝓤 _)) (λ κs a g r e. id⊢ 𝓤 _)
+      kept 𝓤 H A ek-card-mark.ended _ _ _ refl (λ κs a. (tt, id⊢ 𝓤 _)) (λ κs a g r e. id⊢ 𝓤 _)
       (λ κs a r s x y p q. let u : _ = gives-unique _ r s _ _ _ _ _ _ _ _ p q in (u .0, λ i. (u .1 i, (tt, (tt, (u .4 i, tt))))))
 
-  ek-card-power-off-contract : Contract 𝓤 ek-card-power-off.ended (ek-card-power-off.clauses 𝓤 H A mem run)
+  ek-card-power-off-contract : Contract 𝓤 H A ek-card-power-off.ended (ek-card-power-off.spec 𝓤 H A mem run) (ek-card-power-off.clauses 𝓤 H A mem run)
       (λ κs a r e.
       Gives (offCall (now (a .0)) (now (a .1 .0)) (now (a .1 .1 .0)) (now (a .1 .1 .1 .0)))
       r (now (e .0)) (now (a .1 .0)) (now (a .1 .1 .0)) (now (a .1 .1 .1 .0)))
   ek-card-power-off-contract =
-      kept 𝓤 ek-card-power-off.ended _ _ (λ κs a. (tt, id⊢ 𝓤 _)) (λ κs a g r e. id⊢ 𝓤 _)
+      kept 𝓤 H A ek-card-power-off.ended _ _ _ refl (λ κs a. (tt, id⊢ 𝓤 _)) (λ κs a g r e. id⊢ 𝓤 _)
       (λ κs a r s x y p q. let u : _ = gives-unique _ r s _ _ _ _ _ _ _ _ p q in (u .0, λ i. (u .1 i, (tt, (tt, (tt, tt))))))
 
-  ek-walk-start-contract : Contract 𝓤 ek-walk-start.ended (ek-walk-start.clauses 𝓤 H A mem run) (λ κs a r e. now (e .0) ≡ started (a .1 .0))
+  ek-walk-start-contract : Contract 𝓤 H A ek-walk-start.ended (ek-walk-start.spec 𝓤 H A mem run) (ek-walk-start.clauses 𝓤 H A mem run)
+      (λ κs a r e. now (e .0) ≡ started (a .1 .0))
   ek-walk-start-contract =
-      kept 𝓤 ek-walk-start.ended _ _ (λ κs a. (tt, id⊢ 𝓤 _)) (λ κs a g r e. id⊢ 𝓤 _)
+      kept 𝓤 H A ek-walk-start.ended _ _ _ refl (λ κs a. (tt, id⊢ 𝓤 _)) (λ κs a g r e. id⊢ 𝓤 _)
       (λ κs a r s x y p q. (refl, λ i. ((p ∙ sym q) i, (tt, tt))))
 
-  ek-walk-hear-silence-contract : Contract 𝓤 ek-walk-hear-silence.ended (ek-walk-hear-silence.clauses 𝓤 H A mem run)
+  ek-walk-hear-silence-contract : Contract 𝓤 H A ek-walk-hear-silence.ended (ek-walk-hear-silence.spec 𝓤 H A mem run) (ek-walk-hear-silence.clauses 𝓤 H A mem run)
       (λ κs a r e. HearsInPlace (hearing (now (a .0)) Silence [] (now (a .1 .0))) r (now (e .0)) (now (e .1 .0)))
   ek-walk-hear-silence-contract =
-      kept 𝓤 ek-walk-hear-silence.ended _ _ (λ κs a. (tt, id⊢ 𝓤 _)) (λ κs a g r e. id⊢ 𝓤 _)
+      kept 𝓤 H A ek-walk-hear-silence.ended _ _ _ refl (λ κs a. (tt, id⊢ 𝓤 _)) (λ κs a g r e. id⊢ 𝓤 _)
       (λ κs a r s x y p q. let u : _ = hear-in-place-unique _ r s _ _ _ _ p q in (u .0, λ i. (u .1 i, (u .2 i, tt))))
 
-  ek-walk-hear-clash-contract : Contract 𝓤 ek-walk-hear-clash.ended (ek-walk-hear-clash.clauses 𝓤 H A mem run)
+  ek-walk-hear-clash-contract : Contract 𝓤 H A ek-walk-hear-clash.ended (ek-walk-hear-clash.spec 𝓤 H A mem run) (ek-walk-hear-clash.clauses 𝓤 H A mem run)
       (λ κs a r e. HearsInPlace (hearing (now (a .0)) Clash [] (now (a .1 .0))) r (now (e .0)) (now (e .1 .0)))
   ek-walk-hear-clash-contract =
-      kept 𝓤 ek-walk-hear-clash.ended _ _ (λ κs a. (tt, id⊢ 𝓤 _)) (λ κs a g r e. id⊢ 𝓤 _)
+      kept 𝓤 H A ek-walk-hear-clash.ended _ _ _ refl (λ κs a. (tt, id⊢ 𝓤 _)) (λ κs a g r e. id⊢ 𝓤 _)
       (λ κs a r s x y p q. let u : _ = hear-in-place-unique _ r s _ _ _ _ p q in (u .0, λ i. (u .1 i, (u .2 i, tt))))
 
-  ek-walk-hear-bytes-contract : Contract 𝓤 ek-walk-hear-bytes.ended (ek-walk-hear-bytes.clauses 𝓤 H A mem run)
+  ek-walk-hear-bytes-contract : Contract 𝓤 H A ek-walk-hear-bytes.ended (ek-walk-hear-bytes.spec 𝓤 H A mem run) (ek-walk-hear-bytes.clauses 𝓤 H A mem run)
       (λ κs a r e. HearsInPlace (hearing (now (a .0)) Bytes (now (a .1 .0)) (now (a .1 .1 .0))) r (now (e .0)) (now (e .1 .1 .0)))
   ek-walk-hear-bytes-contract =
-      kept 𝓤 ek-walk-hear-bytes.ended _ _ (λ κs a. (tt, id⊢ 𝓤 _)) (λ κs a g r e. id⊢ 𝓤 _)
+      kept 𝓤 H A ek-walk-hear-bytes.ended _ _ _ refl (λ κs a. (tt, id⊢ 𝓤 _)) (λ κs a g r e. id⊢ 𝓤 _)
       (λ κs a r s x y p q. let u : _ = hear-in-place-unique _ r s _ _ _ _ p q in (u .0, λ i. (u .1 i, (tt, (u .2 i, tt)))))
 
-  ek-walk-ask-contract : Contract 𝓤 ek-walk-ask.ended (ek-walk-ask.clauses 𝓤 H A mem run)
+  ek-walk-ask-contract : Contract 𝓤 H A ek-walk-ask.ended (ek-walk-ask.spec 𝓤 H A mem run) (ek-walk-ask.clauses 𝓤 H A mem run)
       (λ κs a r e. AsksInPlace (asking (now (a .0)) (now (a .1 .0))) r (now (e .1 .0)))
   ek-walk-ask-contract =
-      kept 𝓤 ek-walk-ask.ended _ _ (λ κs a. (tt, id⊢ 𝓤 _)) (λ κs a g r e. id⊢ 𝓤 _)
+      kept 𝓤 H A ek-walk-ask.ended _ _ _ refl (λ κs a. (tt, id⊢ 𝓤 _)) (λ κs a g r e. id⊢ 𝓤 _)
       (λ κs a r s x y p q. let u : _ = ask-in-place-unique _ r s _ _ p q in (u .0, λ i. (tt, (u .1 i, tt))))

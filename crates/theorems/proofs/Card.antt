@@ -39,77 +39,84 @@ use Rattle.theorems.proofs.Kept.{kept}
 module _ {M : Type 1} (𝓤 : URA M) (H : Heap 𝓤) (A : Atoms 𝓤) (mem : Memory → SProp 𝓤) (run : Routine → Fun 𝓤) where
   -- ---- card
 
-  card-hear-inventory-contract : Contract 𝓤 card-hear-inventory.ended (card-hear-inventory.clauses 𝓤 H A mem run)
+  card-hear-inventory-contract : Contract 𝓤 H A card-hear-inventory.ended (card-hear-inventory.spec 𝓤 H A mem run) (card-hear-inventory.clauses 𝓤 H A mem run)
       (λ κs a r e. r ≡ heardInventory (a .0) (now (a .1 .0)))
   card-hear-inventory-contract =
-      kept 𝓤 card-hear-inventory.ended _ _ (λ κs a. (tt, id⊢ 𝓤 _)) (λ κs a g r e. id⊢ 𝓤 _)
+      kept 𝓤 H A card-hear-inventory.ended _ _ _ refl (λ κs a. (tt, id⊢ 𝓤 _)) (λ κs a g r e. id⊢ 𝓤 _)
       (λ κs a r s x y p q. (p ∙ sym q, refl))
 
-  card-hear-mark-contract : Contract 𝓤 card-hear-mark.ended (card-hear-mark.clauses 𝓤 H A mem run) (λ κs a r e. r ≡ marked (a .0))
-  card-hear-mark-contract = kept 𝓤 card-hear-mark.ended _ _ (λ κs a. (tt, id⊢ 𝓤 _)) (λ κs a g r e. id⊢ 𝓤 _) (λ κs a r s x y p q. (p ∙ sym q, refl))
+  card-hear-mark-contract : Contract 𝓤 H A card-hear-mark.ended (card-hear-mark.spec 𝓤 H A mem run) (card-hear-mark.clauses 𝓤 H A mem run)
+      (λ κs a r e. r ≡ marked (a .0))
+  card-hear-mark-contract = kept 𝓤 H A card-hear-mark.ended _ _ _ refl (λ κs a. (tt, id⊢ 𝓤 _)) (λ κs a g r e. id⊢ 𝓤 _) (λ κs a r s x y p q. (p ∙ sym q, refl))
 
-  card-is-accepted-contract : Contract 𝓤 card-is-accepted.ended (card-is-accepted.clauses 𝓤 H A mem run) (λ κs a r e. r ≡ isAccepted (a .0))
-  card-is-accepted-contract = kept 𝓤 card-is-accepted.ended _ _ (λ κs a. (tt, id⊢ 𝓤 _)) (λ κs a g r e. id⊢ 𝓤 _) (λ κs a r s x y p q. (p ∙ sym q, refl))
+  card-is-accepted-contract : Contract 𝓤 H A card-is-accepted.ended (card-is-accepted.spec 𝓤 H A mem run) (card-is-accepted.clauses 𝓤 H A mem run)
+      (λ κs a r e. r ≡ isAccepted (a .0))
+  card-is-accepted-contract = kept 𝓤 H A card-is-accepted.ended _ _ _ refl (λ κs a. (tt, id⊢ 𝓤 _)) (λ κs a g r e. id⊢ 𝓤 _) (λ κs a r s x y p q. (p ∙ sym q, refl))
 
-  card-cleared-contract : Contract 𝓤 card-cleared.ended (card-cleared.clauses 𝓤 H A mem run) (λ κs a r e. r ≡ cleared (a .0))
-  card-cleared-contract = kept 𝓤 card-cleared.ended _ _ (λ κs a. (tt, id⊢ 𝓤 _)) (λ κs a g r e. id⊢ 𝓤 _) (λ κs a r s x y p q. (p ∙ sym q, refl))
+  card-cleared-contract : Contract 𝓤 H A card-cleared.ended (card-cleared.spec 𝓤 H A mem run) (card-cleared.clauses 𝓤 H A mem run)
+      (λ κs a r e. r ≡ cleared (a .0))
+  card-cleared-contract = kept 𝓤 H A card-cleared.ended _ _ _ refl (λ κs a. (tt, id⊢ 𝓤 _)) (λ κs a g r e. id⊢ 𝓤 _) (λ κs a r s x y p q. (p ∙ sym q, refl))
 
-  card-in-mode-contract : Contract 𝓤 card-in-mode.ended (card-in-mode.clauses 𝓤 H A mem run) (λ κs a r e. r ≡ inMode (a .1 .0) (a .0))
-  card-in-mode-contract = kept 𝓤 card-in-mode.ended _ _ (λ κs a. (tt, id⊢ 𝓤 _)) (λ κs a g r e. id⊢ 𝓤 _) (λ κs a r s x y p q. (p ∙ sym q, refl))
+  card-in-mode-contract : Contract 𝓤 H A card-in-mode.ended (card-in-mode.spec 𝓤 H A mem run) (card-in-mode.clauses 𝓤 H A mem run)
+      (λ κs a r e. r ≡ inMode (a .1 .0) (a .0))
+  card-in-mode-contract = kept 𝓤 H A card-in-mode.ended _ _ _ refl (λ κs a. (tt, id⊢ 𝓤 _)) (λ κs a g r e. id⊢ 𝓤 _) (λ κs a r s x y p q. (p ∙ sym q, refl))
 
-  card-holding-contract : Contract 𝓤 card-holding.ended (card-holding.clauses 𝓤 H A mem run) (λ κs a r e. r ≡ holding (a .1 .0) (a .0))
-  card-holding-contract = kept 𝓤 card-holding.ended _ _ (λ κs a. (tt, id⊢ 𝓤 _)) (λ κs a g r e. id⊢ 𝓤 _) (λ κs a r s x y p q. (p ∙ sym q, refl))
+  card-holding-contract : Contract 𝓤 H A card-holding.ended (card-holding.spec 𝓤 H A mem run) (card-holding.clauses 𝓤 H A mem run)
+      (λ κs a r e. r ≡ holding (a .1 .0) (a .0))
+  card-holding-contract = kept 𝓤 H A card-holding.ended _ _ _ refl (λ κs a. (tt, id⊢ 𝓤 _)) (λ κs a g r e. id⊢ 𝓤 _) (λ κs a r s x y p q. (p ∙ sym q, refl))
 
-  card-with-afi-contract : Contract 𝓤 card-with-afi.ended (card-with-afi.clauses 𝓤 H A mem run)
+  card-with-afi-contract : Contract 𝓤 H A card-with-afi.ended (card-with-afi.spec 𝓤 H A mem run) (card-with-afi.clauses 𝓤 H A mem run)
       (λ κs a r e. r ≡ withAfi (a .1 .0) (a .1 .1 .0) (a .0))
-  card-with-afi-contract = kept 𝓤 card-with-afi.ended _ _ (λ κs a. (tt, id⊢ 𝓤 _)) (λ κs a g r e. id⊢ 𝓤 _) (λ κs a r s x y p q. (p ∙ sym q, refl))
+  card-with-afi-contract = kept 𝓤 H A card-with-afi.ended _ _ _ refl (λ κs a. (tt, id⊢ 𝓤 _)) (λ κs a g r e. id⊢ 𝓤 _) (λ κs a r s x y p q. (p ∙ sym q, refl))
 
-  card-with-dsfid-contract : Contract 𝓤 card-with-dsfid.ended (card-with-dsfid.clauses 𝓤 H A mem run)
+  card-with-dsfid-contract : Contract 𝓤 H A card-with-dsfid.ended (card-with-dsfid.spec 𝓤 H A mem run) (card-with-dsfid.clauses 𝓤 H A mem run)
       (λ κs a r e. r ≡ withDsfid (a .1 .0) (a .1 .1 .0) (a .0))
-  card-with-dsfid-contract = kept 𝓤 card-with-dsfid.ended _ _ (λ κs a. (tt, id⊢ 𝓤 _)) (λ κs a g r e. id⊢ 𝓤 _) (λ κs a r s x y p q. (p ∙ sym q, refl))
+  card-with-dsfid-contract = kept 𝓤 H A card-with-dsfid.ended _ _ _ refl (λ κs a. (tt, id⊢ 𝓤 _)) (λ κs a g r e. id⊢ 𝓤 _) (λ κs a r s x y p q. (p ∙ sym q, refl))
 
-  card-power-off-contract : Contract 𝓤 card-power-off.ended (card-power-off.clauses 𝓤 H A mem run) (λ κs a r e. r ≡ poweredOff (a .0))
-  card-power-off-contract = kept 𝓤 card-power-off.ended _ _ (λ κs a. (tt, id⊢ 𝓤 _)) (λ κs a g r e. id⊢ 𝓤 _) (λ κs a r s x y p q. (p ∙ sym q, refl))
+  card-power-off-contract : Contract 𝓤 H A card-power-off.ended (card-power-off.spec 𝓤 H A mem run) (card-power-off.clauses 𝓤 H A mem run)
+      (λ κs a r e. r ≡ poweredOff (a .0))
+  card-power-off-contract = kept 𝓤 H A card-power-off.ended _ _ _ refl (λ κs a. (tt, id⊢ 𝓤 _)) (λ κs a g r e. id⊢ 𝓤 _) (λ κs a r s x y p q. (p ∙ sym q, refl))
 
   -- ---- record
 
-  record-read-contract : Contract 𝓤 record-read.ended (record-read.clauses 𝓤 H A mem run) (λ κs a r e. r ≡ cardRead (now (a .0)))
-  record-read-contract = kept 𝓤 record-read.ended _ _ (λ κs a. (tt, id⊢ 𝓤 _)) (λ κs a g r e. id⊢ 𝓤 _) (λ κs a r s x y p q. (p ∙ sym q, refl))
+  record-read-contract : Contract 𝓤 H A record-read.ended (record-read.spec 𝓤 H A mem run) (record-read.clauses 𝓤 H A mem run)
+      (λ κs a r e. r ≡ cardRead (now (a .0)))
+  record-read-contract = kept 𝓤 H A record-read.ended _ _ _ refl (λ κs a. (tt, id⊢ 𝓤 _)) (λ κs a g r e. id⊢ 𝓤 _) (λ κs a r s x y p q. (p ∙ sym q, refl))
 
-  record-write-contract : Contract 𝓤 record-write.ended (record-write.clauses 𝓤 H A mem run)
+  record-write-contract : Contract 𝓤 H A record-write.ended (record-write.spec 𝓤 H A mem run) (record-write.clauses 𝓤 H A mem run)
       (λ κs a r e. Writes (a .0) (now (a .1 .0)) r (now (e .1 .0)))
   record-write-contract =
-      kept 𝓤 record-write.ended _ _ (λ κs a. (tt, id⊢ 𝓤 _)) (λ κs a g r e. id⊢ 𝓤 _)
+      kept 𝓤 H A record-write.ended _ _ _ refl (λ κs a. (tt, id⊢ 𝓤 _)) (λ κs a g r e. id⊢ 𝓤 _)
       (λ κs a r s x y p q. let u : _ = write-unique _ _ r s _ _ p q in (u .0, λ i. (tt, (u .1 i, tt))))
 
   -- ---- requests
 
-  requests-decide-contract : Contract 𝓤 requests-decide.ended (requests-decide.clauses 𝓤 H A mem run)
+  requests-decide-contract : Contract 𝓤 H A requests-decide.ended (requests-decide.spec 𝓤 H A mem run) (requests-decide.clauses 𝓤 H A mem run)
       (λ κs a r e. r ≡ decided (a .0) (now (a .1 .0)) (now (a .1 .1 .0)))
-  requests-decide-contract = kept 𝓤 requests-decide.ended _ _ (λ κs a. (tt, id⊢ 𝓤 _)) (λ κs a g r e. id⊢ 𝓤 _) (λ κs a r s x y p q. (p ∙ sym q, refl))
+  requests-decide-contract = kept 𝓤 H A requests-decide.ended _ _ _ refl (λ κs a. (tt, id⊢ 𝓤 _)) (λ κs a g r e. id⊢ 𝓤 _) (λ κs a r s x y p q. (p ∙ sym q, refl))
 
   -- ---- play
 
-  play-frame-contract : Contract 𝓤 play-frame.ended (play-frame.clauses 𝓤 H A mem run)
+  play-frame-contract : Contract 𝓤 H A play-frame.ended (play-frame.spec 𝓤 H A mem run) (play-frame.clauses 𝓤 H A mem run)
       (λ κs a r e.
       Leaves (frameEvent (a .0) (now (a .1 .0)) (now (a .1 .1 .0)) (now (a .1 .1 .1 .0)) (now (a .1 .1 .1 .1 .0)))
       r (now (e .1 .1 .0)) (now (e .1 .1 .1 .0)) (now (e .1 .1 .1 .1 .0)))
   play-frame-contract =
-      kept 𝓤 play-frame.ended _ _ (λ κs a. (tt, id⊢ 𝓤 _)) (λ κs a g r e. id⊢ 𝓤 _)
+      kept 𝓤 H A play-frame.ended _ _ _ refl (λ κs a. (tt, id⊢ 𝓤 _)) (λ κs a g r e. id⊢ 𝓤 _)
       (λ κs a r s x y p q. let u : _ = leaves-unique _ r s _ _ _ _ _ _ p q in (u .0, λ i. (tt, (tt, (u .1 i, (u .2 i, (u .3 i, tt)))))))
 
-  play-mark-contract : Contract 𝓤 play-mark.ended (play-mark.clauses 𝓤 H A mem run)
+  play-mark-contract : Contract 𝓤 H A play-mark.ended (play-mark.spec 𝓤 H A mem run) (play-mark.clauses 𝓤 H A mem run)
       (λ κs a r e.
       Leaves (markEvent (a .0) (now (a .1 .0)) (now (a .1 .1 .0)) (now (a .1 .1 .1 .0)))
       r (now (a .1 .0)) (now (a .1 .1 .0)) (now (e .1 .1 .1 .0)))
   play-mark-contract =
-      kept 𝓤 play-mark.ended _ _ (λ κs a. (tt, id⊢ 𝓤 _)) (λ κs a g r e. id⊢ 𝓤 _)
+      kept 𝓤 H A play-mark.ended _ _ _ refl (λ κs a. (tt, id⊢ 𝓤 _)) (λ κs a g r e. id⊢ 𝓤 _)
       (λ κs a r s x y p q. let u : _ = leaves-unique _ r s _ _ _ _ _ _ p q in (u .0, λ i. (tt, (tt, (tt, (u .3 i, tt))))))
 
-  play-power-off-contract : Contract 𝓤 play-power-off.ended (play-power-off.clauses 𝓤 H A mem run)
+  play-power-off-contract : Contract 𝓤 H A play-power-off.ended (play-power-off.spec 𝓤 H A mem run) (play-power-off.clauses 𝓤 H A mem run)
       (λ κs a r e.
       Leaves (offEvent (a .0) (now (a .1 .0)) (now (a .1 .1 .0)) (now (a .1 .1 .1 .0)))
       r (now (a .1 .0)) (now (a .1 .1 .0)) (now (a .1 .1 .1 .0)))
   play-power-off-contract =
-      kept 𝓤 play-power-off.ended _ _ (λ κs a. (tt, id⊢ 𝓤 _)) (λ κs a g r e. id⊢ 𝓤 _)
+      kept 𝓤 H A play-power-off.ended _ _ _ refl (λ κs a. (tt, id⊢ 𝓤 _)) (λ κs a g r e. id⊢ 𝓤 _)
       (λ κs a r s x y p q. let u : _ = leaves-unique _ r s _ _ _ _ _ _ p q in (u .0, refl))

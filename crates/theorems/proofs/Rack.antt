@@ -43,67 +43,76 @@ use Rattle.theorems.proofs.Kept.{kept}
 module _ {M : Type 1} (𝓤 : URA M) (H : Heap 𝓤) (A : Atoms 𝓤) (mem : Memory → SProp 𝓤) (run : Routine → Fun 𝓤) where
   -- ---- walk
 
-  walk-ask-contract : Contract 𝓤 walk-ask.ended (walk-ask.clauses 𝓤 H A mem run)
+  walk-ask-contract : Contract 𝓤 H A walk-ask.ended (walk-ask.spec 𝓤 H A mem run) (walk-ask.clauses 𝓤 H A mem run)
       (λ κs a r e. Asks (a .0) (asking (a .0) (now (a .1 .0))) r (now (e .1 .0)))
   walk-ask-contract =
-      kept 𝓤 walk-ask.ended _ _ (λ κs a. (tt, id⊢ 𝓤 _)) (λ κs a g r e. id⊢ 𝓤 _)
+      kept 𝓤 H A walk-ask.ended _ _ _ refl (λ κs a. (tt, id⊢ 𝓤 _)) (λ κs a g r e. id⊢ 𝓤 _)
       (λ κs a r s x y p q. let u : _ = ask-unique _ _ r s _ _ p q in (u .0, λ i. (tt, (u .1 i, tt))))
 
-  walk-hear-contract : Contract 𝓤 walk-hear.ended (walk-hear.clauses 𝓤 H A mem run)
+  walk-hear-contract : Contract 𝓤 H A walk-hear.ended (walk-hear.spec 𝓤 H A mem run) (walk-hear.clauses 𝓤 H A mem run)
       (λ κs a r e. Hears (hearing (a .0) (a .1 .0) (now (a .1 .1 .0)) (now (a .1 .1 .1 .0))) r (now (e .1 .1 .1 .0)))
   walk-hear-contract =
-      kept 𝓤 walk-hear.ended _ _ (λ κs a. (tt, id⊢ 𝓤 _)) (λ κs a g r e. id⊢ 𝓤 _)
+      kept 𝓤 H A walk-hear.ended _ _ _ refl (λ κs a. (tt, id⊢ 𝓤 _)) (λ κs a g r e. id⊢ 𝓤 _)
       (λ κs a r s x y p q. let u : _ = hear-unique _ r s _ _ p q in (u .0, λ i. (tt, (tt, (tt, (u .1 i, tt))))))
 
-  walk-start-contract : Contract 𝓤 walk-start.ended (walk-start.clauses 𝓤 H A mem run) (λ κs a r e. r ≡ started (a .0))
-  walk-start-contract = kept 𝓤 walk-start.ended _ _ (λ κs a. (tt, id⊢ 𝓤 _)) (λ κs a g r e. id⊢ 𝓤 _) (λ κs a r s x y p q. (p ∙ sym q, refl))
+  walk-start-contract : Contract 𝓤 H A walk-start.ended (walk-start.spec 𝓤 H A mem run) (walk-start.clauses 𝓤 H A mem run)
+      (λ κs a r e. r ≡ started (a .0))
+  walk-start-contract = kept 𝓤 H A walk-start.ended _ _ _ refl (λ κs a. (tt, id⊢ 𝓤 _)) (λ κs a g r e. id⊢ 𝓤 _) (λ κs a r s x y p q. (p ∙ sym q, refl))
 
-  walk-is-accepted-contract : Contract 𝓤 walk-is-accepted.ended (walk-is-accepted.clauses 𝓤 H A mem run) (λ κs a r e. r ≡ isAccepted (a .0))
-  walk-is-accepted-contract = kept 𝓤 walk-is-accepted.ended _ _ (λ κs a. (tt, id⊢ 𝓤 _)) (λ κs a g r e. id⊢ 𝓤 _) (λ κs a r s x y p q. (p ∙ sym q, refl))
+  walk-is-accepted-contract : Contract 𝓤 H A walk-is-accepted.ended (walk-is-accepted.spec 𝓤 H A mem run) (walk-is-accepted.clauses 𝓤 H A mem run)
+      (λ κs a r e. r ≡ isAccepted (a .0))
+  walk-is-accepted-contract = kept 𝓤 H A walk-is-accepted.ended _ _ _ refl (λ κs a. (tt, id⊢ 𝓤 _)) (λ κs a g r e. id⊢ 𝓤 _) (λ κs a r s x y p q. (p ∙ sym q, refl))
 
   -- ---- row
 
-  row-fresh-contract : Contract 𝓤 row-fresh.ended (row-fresh.clauses 𝓤 H A mem run) (λ κs a r e. r ≡ freshDesk)
-  row-fresh-contract = kept 𝓤 row-fresh.ended _ _ (λ κs a. (tt, id⊢ 𝓤 _)) (λ κs a g r e. id⊢ 𝓤 _) (λ κs a r s x y p q. (p ∙ sym q, refl))
+  row-fresh-contract : Contract 𝓤 H A row-fresh.ended (row-fresh.spec 𝓤 H A mem run) (row-fresh.clauses 𝓤 H A mem run)
+      (λ κs a r e. r ≡ freshDesk)
+  row-fresh-contract = kept 𝓤 H A row-fresh.ended _ _ _ refl (λ κs a. (tt, id⊢ 𝓤 _)) (λ κs a g r e. id⊢ 𝓤 _) (λ κs a r s x y p q. (p ∙ sym q, refl))
 
-  row-deal-contract : Contract 𝓤 row-deal.ended (row-deal.clauses 𝓤 H A mem run) (λ κs a r e. r ≡ cardsOf (a .0))
-  row-deal-contract = kept 𝓤 row-deal.ended _ _ (λ κs a. (tt, id⊢ 𝓤 _)) (λ κs a g r e. id⊢ 𝓤 _) (λ κs a r s x y p q. (p ∙ sym q, refl))
+  row-deal-contract : Contract 𝓤 H A row-deal.ended (row-deal.spec 𝓤 H A mem run) (row-deal.clauses 𝓤 H A mem run)
+      (λ κs a r e. r ≡ cardsOf (a .0))
+  row-deal-contract = kept 𝓤 H A row-deal.ended _ _ _ refl (λ κs a. (tt, id⊢ 𝓤 _)) (λ κs a g r e. id⊢ 𝓤 _) (λ κs a r s x y p q. (p ∙ sym q, refl))
 
-  row-hear-contract : Contract 𝓤 row-hear.ended (row-hear.clauses 𝓤 H A mem run) (λ κs a r e. r ≡ deskAfter (a .0) (a .1 .0))
-  row-hear-contract = kept 𝓤 row-hear.ended _ _ (λ κs a. (tt, id⊢ 𝓤 _)) (λ κs a g r e. id⊢ 𝓤 _) (λ κs a r s x y p q. (p ∙ sym q, refl))
+  row-hear-contract : Contract 𝓤 H A row-hear.ended (row-hear.spec 𝓤 H A mem run) (row-hear.clauses 𝓤 H A mem run)
+      (λ κs a r e. r ≡ deskAfter (a .0) (a .1 .0))
+  row-hear-contract = kept 𝓤 H A row-hear.ended _ _ _ refl (λ κs a. (tt, id⊢ 𝓤 _)) (λ κs a g r e. id⊢ 𝓤 _) (λ κs a r s x y p q. (p ∙ sym q, refl))
 
-  row-slot-contract : Contract 𝓤 row-slot.ended (row-slot.clauses 𝓤 H A mem run) (λ κs a r e. r ≡ slotted (a .0) (a .1 .0) (a .1 .1 .0))
-  row-slot-contract = kept 𝓤 row-slot.ended _ _ (λ κs a. (tt, id⊢ 𝓤 _)) (λ κs a g r e. id⊢ 𝓤 _) (λ κs a r s x y p q. (p ∙ sym q, refl))
+  row-slot-contract : Contract 𝓤 H A row-slot.ended (row-slot.spec 𝓤 H A mem run) (row-slot.clauses 𝓤 H A mem run)
+      (λ κs a r e. r ≡ slotted (a .0) (a .1 .0) (a .1 .1 .0))
+  row-slot-contract = kept 𝓤 H A row-slot.ended _ _ _ refl (λ κs a. (tt, id⊢ 𝓤 _)) (λ κs a g r e. id⊢ 𝓤 _) (λ κs a r s x y p q. (p ∙ sym q, refl))
 
-  row-goes-on-contract : Contract 𝓤 row-goes-on.ended (row-goes-on.clauses 𝓤 H A mem run) (λ κs a r e. r ≡ goesOn (a .0) (a .1 .0))
-  row-goes-on-contract = kept 𝓤 row-goes-on.ended _ _ (λ κs a. (tt, id⊢ 𝓤 _)) (λ κs a g r e. id⊢ 𝓤 _) (λ κs a r s x y p q. (p ∙ sym q, refl))
+  row-goes-on-contract : Contract 𝓤 H A row-goes-on.ended (row-goes-on.spec 𝓤 H A mem run) (row-goes-on.clauses 𝓤 H A mem run)
+      (λ κs a r e. r ≡ goesOn (a .0) (a .1 .0))
+  row-goes-on-contract = kept 𝓤 H A row-goes-on.ended _ _ _ refl (λ κs a. (tt, id⊢ 𝓤 _)) (λ κs a g r e. id⊢ 𝓤 _) (λ κs a r s x y p q. (p ∙ sym q, refl))
 
-  row-play-contract : Contract 𝓤 row-play.ended (row-play.clauses 𝓤 H A mem run) (λ κs a r e. r ≡ ended (take (a .1 .0) (a .0)))
-  row-play-contract = kept 𝓤 row-play.ended _ _ (λ κs a. (tt, id⊢ 𝓤 _)) (λ κs a g r e. id⊢ 𝓤 _) (λ κs a r s x y p q. (p ∙ sym q, refl))
+  row-play-contract : Contract 𝓤 H A row-play.ended (row-play.spec 𝓤 H A mem run) (row-play.clauses 𝓤 H A mem run)
+      (λ κs a r e. r ≡ ended (take (a .1 .0) (a .0)))
+  row-play-contract = kept 𝓤 H A row-play.ended _ _ _ refl (λ κs a. (tt, id⊢ 𝓤 _)) (λ κs a g r e. id⊢ 𝓤 _) (λ κs a r s x y p q. (p ∙ sym q, refl))
 
-  row-listen-row-contract : Contract 𝓤 row-listen-row.ended (row-listen-row.clauses 𝓤 H A mem run)
+  row-listen-row-contract : Contract 𝓤 H A row-listen-row.ended (row-listen-row.spec 𝓤 H A mem run) (row-listen-row.clauses 𝓤 H A mem run)
       (λ κs a r e. HearsRow (a .1 .0) (now (a .0)) r (now (e .0)))
   row-listen-row-contract =
-      kept 𝓤 row-listen-row.ended _ _ (λ κs a. (tt, id⊢ 𝓤 _)) (λ κs a g r e. id⊢ 𝓤 _)
+      kept 𝓤 H A row-listen-row.ended _ _ _ refl (λ κs a. (tt, id⊢ 𝓤 _)) (λ κs a g r e. id⊢ 𝓤 _)
       (λ κs a r s x y p q. let u : _ = listen-row-unique _ _ r s _ _ p q in (u .0, λ i. (u .1 i, (tt, tt))))
 
   -- ---- lines
 
-  lines-read-contract : Contract 𝓤 lines-read.ended (lines-read.clauses 𝓤 H A mem run) (λ κs a r e. r ≡ readFrom freshLines (now (a .0)))
-  lines-read-contract = kept 𝓤 lines-read.ended _ _ (λ κs a. (tt, id⊢ 𝓤 _)) (λ κs a g r e. id⊢ 𝓤 _) (λ κs a r s x y p q. (p ∙ sym q, refl))
+  lines-read-contract : Contract 𝓤 H A lines-read.ended (lines-read.spec 𝓤 H A mem run) (lines-read.clauses 𝓤 H A mem run)
+      (λ κs a r e. r ≡ readFrom freshLines (now (a .0)))
+  lines-read-contract = kept 𝓤 H A lines-read.ended _ _ _ refl (λ κs a. (tt, id⊢ 𝓤 _)) (λ κs a g r e. id⊢ 𝓤 _) (λ κs a r s x y p q. (p ∙ sym q, refl))
 
   -- ---- rack
 
-  rack-bench-contract : Contract 𝓤 rack-bench.ended (rack-bench.clauses 𝓤 H A mem run)
+  rack-bench-contract : Contract 𝓤 H A rack-bench.ended (rack-bench.spec 𝓤 H A mem run) (rack-bench.clauses 𝓤 H A mem run)
       (λ κs a r e. Prints (now (a .0)) (now (a .1 .0)) r (now (e .1 .0)))
   rack-bench-contract =
-      kept 𝓤 rack-bench.ended _ _ (λ κs a. (tt, id⊢ 𝓤 _)) (λ κs a g r e. id⊢ 𝓤 _)
+      kept 𝓤 H A rack-bench.ended _ _ _ refl (λ κs a. (tt, id⊢ 𝓤 _)) (λ κs a g r e. id⊢ 𝓤 _)
       (λ κs a r s x y p q. let u : _ = prints-unique _ _ r s _ _ p q in (u .0, λ i. (tt, (u .1 i, tt))))
 
   -- ---- picture
 
-  picture-picture-contract : Contract 𝓤 picture-picture.ended (picture-picture.clauses 𝓤 H A mem run)
+  picture-picture-contract : Contract 𝓤 H A picture-picture.ended (picture-picture.spec 𝓤 H A mem run) (picture-picture.clauses 𝓤 H A mem run)
       (λ κs a r e. Pictures (now (a .0)) (now (a .1 .0)) r (now (e .1 .0)))
   picture-picture-contract =
-      kept 𝓤 picture-picture.ended _ _ (λ κs a. (tt, id⊢ 𝓤 _)) (λ κs a g r e. id⊢ 𝓤 _)
+      kept 𝓤 H A picture-picture.ended _ _ _ refl (λ κs a. (tt, id⊢ 𝓤 _)) (λ κs a g r e. id⊢ 𝓤 _)
       (λ κs a r s x y p q. let u : _ = pictures-unique _ _ r s _ _ p q in (u .0, λ i. (tt, (u .1 i, tt))))
