@@ -12,7 +12,8 @@ use Rattle.walk.specs.declared.Walk.{Walk}
 use Rattle.walk.specs.Record.{running, maskLength, isRunning, remade, noMarks, started}
 use Rattle.walk.specs.Ask.{roomAfter}
 use Rattle.walk.proofs.Accepted.{started-accepted}
-use Rattle.field.specs.Field.{Tag, Obeys, answers, tagAfter}
+use Rattle.play.specs.Life.{Tag, tagAfter}
+use Rattle.field.specs.Field.{Obeys, answers}
 use Rattle.field.specs.Answering.{outcomeIn, isHeard, heardOnce}
 use Rattle.field.proofs.InTime.{calls, AtSlot}
 use Rattle.field.proofs.InStep.{self-follows}

@@ -12,7 +12,8 @@ use Rattle.card.specs.declared.Card.{Card}
 use Rattle.walk.specs.declared.Walk.{Walk}
 use Rattle.walk.specs.Record.{maskLength}
 use Rattle.walk.specs.Hear.{judged}
-use Rattle.field.specs.Field.{Tag, answers, answering, arrives}
+use Rattle.play.specs.Life.{Tag}
+use Rattle.field.specs.Field.{answers, answering, arrives}
 use Rattle.field.specs.Demand.{AllObey}
 use Rattle.field.specs.Demand as demand
 use Rattle.field.proofs.Called.{called, slotOf}

@@ -14,7 +14,8 @@ use Rattle.tails.specs.Tails.{sharedTails}
 use Rattle.tails.proofs.Bounds.{shared-tails-half}
 use Rattle.walk.specs.declared.Walk.{Walk}
 use Rattle.walk.specs.Record.{isRunning}
-use Rattle.field.specs.Field.{Tag, answers, answering}
+use Rattle.play.specs.Life.{Tag}
+use Rattle.field.specs.Field.{answers, answering}
 use Rattle.field.specs.Played.{Play, playedFor, fresh}
 use Rattle.field.specs.Found.{Different, listed, Found}
 use Rattle.field.specs.Demand.{AllObey, none, more, cardLeft, cardsLeft, cards, memories, lockBytes, Demand3, demand3}

@@ -11,7 +11,8 @@ use Rattle.walk.specs.declared.Walk.{Walk}
 use Rattle.walk.specs.Marks.{levels, waits, withMark, withoutMark, lowestFrom, lowest, deepestOf, deepest}
 use Rattle.walk.specs.Record.{places, mostRounds, maskLength, isRunning, remade, ended, counted, marked, atNextSlot, openedMask, openedAt, opened, noMarks, started}
 use Rattle.walk.specs.Hear.{endsAtOnce, noted, listNoted, turned, passed, walkAfter, listAfter}
-use Rattle.field.specs.Field.{Tag, answering}
+use Rattle.play.specs.Life.{Tag}
+use Rattle.field.specs.Field.{answering}
 use Rattle.field.specs.Played.{playedFor, fresh}
 use Rattle.field.specs.Found.{listed}
 use Rattle.field.specs.Demand.{AllObey}

@@ -16,7 +16,8 @@ use Rattle.play.specs.Answer.{presence}
 use Rattle.play.proofs.Refusals.{Passes, passes-of, refusal-none}
 use Rattle.play.proofs.Room.{room-of}
 use Rattle.walk.specs.Record.{maskLength}
-use Rattle.field.specs.Field.{Tag, Obeys, answers}
+use Rattle.play.specs.Life.{Tag}
+use Rattle.field.specs.Field.{Obeys, answers}
 use Rattle.field.proofs.InTime.{inStep, Follows, AtSlot}
 use Rattle.field.proofs.Reply.{message}
 use Rattle.field.proofs.Requested.{mask-length-most}

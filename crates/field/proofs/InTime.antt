@@ -11,7 +11,8 @@ use Rattle.card.specs.Record.{isAccepted, cleared, inSequence}
 use Rattle.slots.specs.Fits.{fitsSlot}
 use Rattle.walk.specs.declared.Walk.{Walk}
 use Rattle.walk.specs.Record.{maskLength}
-use Rattle.field.specs.Field.{Tag, answers}
+use Rattle.play.specs.Life.{Tag}
+use Rattle.field.specs.Field.{answers}
 
 -- the card c of the start, in slot s of a round
 unfoldable pub inStep : ℕ → ℕ → ℕ → ℕ → Card → Card

@@ -10,7 +10,8 @@ use Rattle.walk.specs.declared.Slot.{Slot}
 use Rattle.walk.specs.Record.{maskLength, isAccepted, isRunning}
 use Rattle.walk.specs.Hear.{judged, walkAfter, listAfter}
 use Rattle.walk.specs.Ask.{sent, roomAfter}
-use Rattle.field.specs.Field.{Tag, answering, replies, arrives}
+use Rattle.play.specs.Life.{Tag}
+use Rattle.field.specs.Field.{answering, replies, arrives}
 use Rattle.field.specs.Played.{Play, slotPlayed}
 use Rattle.field.specs.Demand.{AllObey}
 use Rattle.field.specs.Demand as demand

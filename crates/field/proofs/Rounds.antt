@@ -7,7 +7,8 @@ use mathlib.Core.List.{List}
 use lib.ListN.{getD}
 use Rattle.walk.specs.declared.Walk.{Walk}
 use Rattle.walk.specs.Record.{isRunning, remade, ended}
-use Rattle.field.specs.Field.{Tag, answering}
+use Rattle.play.specs.Life.{Tag}
+use Rattle.field.specs.Field.{answering}
 use Rattle.field.specs.Played.{Play, slotPlayed, playedFor, fresh}
 use Rattle.field.specs.Demand.{AllObey, roundsCounted, roundsKept}
 use Rattle.field.proofs.Accepted.{walks-accepted}

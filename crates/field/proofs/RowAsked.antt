@@ -14,7 +14,7 @@ use Rattle.walk.specs.declared.Send.the-variants.{Nothing, Mark, Request}
 use Rattle.walk.specs.Marks.{levels}
 use Rattle.walk.specs.Record.{places, mostRounds, maskLength, isAccepted, isRunning}
 use Rattle.walk.specs.Ask.{request, sent, roomAsked, roomAfter, refusal, asking}
-use Rattle.field.specs.Field.{Tag}
+use Rattle.play.specs.Life.{Tag}
 use Rattle.field.specs.Demand.{AllObey}
 use Rattle.field.proofs.InTime.{Both, Before}
 use Rattle.field.proofs.TagHeard.{request-reached, mark-reached}

@@ -9,7 +9,8 @@ use lib.ListN.{length, take}
 use Rattle.card.specs.declared.Card.{Card}
 use Rattle.walk.specs.declared.Walk.{Walk}
 use Rattle.walk.specs.declared.Send.{Send}
-use Rattle.field.specs.Field.{Tag, Obeys, reached, tagAfter, tagsAfter, replies}
+use Rattle.play.specs.Life.{Tag, tagAfter}
+use Rattle.field.specs.Field.{Obeys, reached, tagsAfter, replies}
 use Rattle.field.specs.Demand.{AllObey}
 use Rattle.field.specs.Demand as demand
 use Rattle.field.proofs.InTime.{calls, AtSlot, Both, none, more}

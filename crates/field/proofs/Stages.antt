@@ -9,7 +9,8 @@ use borrow.Author.Tests.{eq-eqb, ne-eqb}
 use lib.ListN.{length, getD}
 use Rattle.walk.specs.declared.Walk.{Walk}
 use Rattle.walk.specs.Record.{isRunning, isAccepted, started, ended, remade}
-use Rattle.field.specs.Field.{Tag, answering}
+use Rattle.play.specs.Life.{Tag}
+use Rattle.field.specs.Field.{answering}
 use Rattle.field.specs.Played.{Play, slotPlayed, playedFor, fresh}
 use Rattle.field.specs.Demand.{AllObey}
 use Rattle.walk.specs.Hear.{walkAfter}

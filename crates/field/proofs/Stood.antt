@@ -9,7 +9,8 @@ use lib.ListN.{getD}
 use Rattle.walk.specs.declared.Walk.{Walk}
 use Rattle.walk.specs.Record.{isRunning}
 use Rattle.walk.specs.Hear.{walkAfter, listAfter}
-use Rattle.field.specs.Field.{Tag, answering}
+use Rattle.play.specs.Life.{Tag}
+use Rattle.field.specs.Field.{answering}
 use Rattle.field.specs.Played.{Play, slotPlayed, playedFor}
 use Rattle.field.specs.Demand.{AllObey}
 use Rattle.field.proofs.Called.{called, slotOf}

@@ -22,7 +22,8 @@ use Rattle.walk.specs.declared.Walk.{Walk}
 use Rattle.walk.specs.declared.Send.the-variants.{Mark, Request}
 use Rattle.walk.specs.Record.{maskLength}
 use Rattle.walk.specs.Ask.{request}
-use Rattle.field.specs.Field.{Tag, Obeys, reached}
+use Rattle.play.specs.Life.{Tag}
+use Rattle.field.specs.Field.{Obeys, reached}
 use Rattle.field.proofs.InTime.{inStep, calls, Follows, AtSlot}
 use Rattle.field.proofs.Requested.{request-decided}
 use Rattle.field.proofs.MarkHeard.{mark-heard}

@@ -16,7 +16,8 @@ use Rattle.play.specs.Events.{lengthTold, answered, replied}
 use Rattle.play.proofs.Answers.{length-presence}
 use Rattle.play.proofs.EventWays.{told-length, told-silence, answered-bytes, answered-silence}
 use Rattle.walk.specs.declared.Walk.{Walk}
-use Rattle.field.specs.Field.{Tag, Obeys, tagAfter}
+use Rattle.play.specs.Life.{Tag, tagAfter}
+use Rattle.field.specs.Field.{Obeys}
 use Rattle.field.proofs.InTime.{inStep, calls, AtSlot}
 use Rattle.field.proofs.Reply.{message, length-message}
 use Rattle.field.proofs.InStep.{served-room, step-message}

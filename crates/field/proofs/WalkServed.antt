@@ -20,7 +20,8 @@ use Rattle.walk.specs.Hear.{judged, walkAfter, listAfter, hearing}
 use Rattle.walk.specs.Ask as ask
 use Rattle.walk.specs.Ask.{sent, roomAsked, roomAfter, asking}
 use Rattle.walk.proofs.Requests.{length-request-most}
-use Rattle.field.specs.Field.{Tag, reached, tagAfter, tagsAfter}
+use Rattle.play.specs.Life.{Tag, tagAfter}
+use Rattle.field.specs.Field.{reached, tagsAfter}
 
 pub walk-heard : (w : Walk) (kind : Kind) (bytes list : List ℕ) → isAccepted w ≡ true → isRunning w ≡ true → 64 ≤ length list
     → hearing w kind bytes list ≡ record { walk = walkAfter w (judged w kind bytes); list = listAfter w (judged w kind bytes) list; number = 0 }

@@ -10,7 +10,8 @@ use Rattle.play.specs.Events.{Outcome}
 use Rattle.walk.specs.declared.Send.the-variants.{Mark}
 use Rattle.walk.specs.Record.{started}
 use Rattle.walk.specs.Ask.{Asking, asking}
-use Rattle.field.specs.Field.{Tag, Obeys, answers, reached, tagAfter}
+use Rattle.play.specs.Life.{Tag, tagAfter}
+use Rattle.field.specs.Field.{Obeys, answers, reached}
 
 -- what slot s makes of a card: the request reaches it in slot 0, a slot mark in each later one
 unfoldable pub outcomeIn : ℕ → List ℕ → Tag → ℕ → Outcome

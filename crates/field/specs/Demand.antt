@@ -9,7 +9,8 @@ use Rattle.card.specs.declared.Sequence.the-variants.{Running}
 use Rattle.card.specs.Record.{cleared, inSequence}
 use Rattle.walk.specs.declared.Walk.{Walk}
 use Rattle.walk.specs.Record.{maskLength, isRunning}
-use Rattle.field.specs.Field.{Tag, Obeys, answers, answering}
+use Rattle.play.specs.Life.{Tag}
+use Rattle.field.specs.Field.{Obeys, answers, answering}
 use Rattle.field.specs.Played.{Play, playedFor, fresh}
 use Rattle.field.specs.Found.{Found}
 

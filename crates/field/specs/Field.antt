@@ -11,17 +11,12 @@ use Rattle.card.specs.declared.Mode.the-variants.{Ready, Quiet, Selected}
 use Rattle.card.specs.declared.Reply.the-variants.{Silence}
 use Rattle.play.specs.Refusal.{refusal}
 use Rattle.play.specs.Events.{Outcome, replied, frameEvent, markEvent}
+pub use Rattle.play.specs.Life.{Tag}
+use Rattle.play.specs.Life.{tagAfter}
 use Rattle.walk.specs.declared.Kind.{Kind}
 use Rattle.walk.specs.declared.Kind.the-variants as kinds
 use Rattle.walk.specs.declared.Send.{Send}
 use Rattle.walk.specs.declared.Send.the-variants.{Nothing, Mark, Request}
-
--- a card with its memory, its lock bytes and the room for its answer
-pub record Tag : Type 0 where
-  pub card : Card
-  pub memory : List ℕ
-  pub locks : List ℕ
-  pub room : List ℕ
 
 -- "cards that obey demand 2": those that a call serves, whose record, memory, lock bytes and room none of the numbers 1 to 4 refuses; a UID has 64
 -- bits
@@ -55,10 +50,7 @@ reached Nothing sent t = replied (t .card) (t .memory) (t .locks) Silence (t .ro
 reached Mark sent t = markEvent (t .card) (t .memory) (t .locks) (t .room)
 reached (Request n) sent t = frameEvent (t .card) (take n sent) (t .memory) (t .locks) (t .room)
 
--- the card after it, and all cards
-unfoldable pub tagAfter : Outcome → Tag
-tagAfter o = record { card = o .card; memory = o .memory; locks = o .locks; room = o .answer }
-
+-- all cards after it
 unfoldable pub tagsAfter : Send → List ℕ → List Tag → List Tag
 tagsAfter send sent [] = []
 tagsAfter send sent (t ∷ ts) = tagAfter (reached send sent t) ∷ tagsAfter send sent ts

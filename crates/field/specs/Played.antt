@@ -5,7 +5,8 @@ use Rattle.walk.specs.declared.Walk.{Walk}
 use Rattle.walk.specs.Record.{started}
 use Rattle.walk.specs.Hear.{Hearing, hearing}
 use Rattle.walk.specs.Ask.{Asking, asking}
-use Rattle.field.specs.Field.{Tag, tagsAfter, replies, Arrival, arrives}
+use Rattle.play.specs.Life.{Tag}
+use Rattle.field.specs.Field.{tagsAfter, replies, Arrival, arrives}
 
 -- all that stands on the desk: the walk, its list, the room for what it sends, and the cards
 pub record Play : Type 0 where

@@ -38,10 +38,12 @@ use Rattle.requests.proofs.Rules.{inventory-frame}
 use Rattle.play.specs.Refusal.{refusal, Accepted}
 use Rattle.play.specs.Fits.{DeedFits}
 use Rattle.play.specs.Events.{Outcome, unserved, frameEvent, markEvent, offEvent, AcceptedNext}
+use Rattle.play.specs.Life.{Tag, AcceptedTag, Event, lived}
 use Rattle.play.specs.Examples.{CardExamples}
 use Rattle.play.proofs.Deeds.{decided-fits}
 use Rattle.play.proofs.Outcomes.{frame-refused, mark-refused, off-refused, frame-damaged}
 use Rattle.play.proofs.Stays.{frame-stays, mark-stays, off-stays}
+use Rattle.play.proofs.Life.{lived-stays}
 use Rattle.play.proofs.Examples.{card-examples}
 use Rattle.board.specs.Calls.{frameCall, markCall, offCall}
 use Rattle.board.proofs.ReadBack.{frame-reads-back, mark-reads-back, off-reads-back, frame-leaves-bytes, mark-leaves-bytes, off-leaves-bytes}
@@ -52,7 +54,7 @@ use Rattle.walk.specs.Record.{maskLength, started, isRunning}
 use Rattle.walk.specs.Hear.{judged}
 use Rattle.walk.specs.Examples.{Walks}
 use Rattle.walk.proofs.Examples.{walks}
-use Rattle.field.specs.Field.{Tag, Arrival, Obeys, answers, answering}
+use Rattle.field.specs.Field.{Arrival, Obeys, answers, answering}
 use Rattle.field.specs.Played.{playedFor, fresh}
 use Rattle.field.specs.Answering.{isHeard, heardOnce}
 use Rattle.field.specs.Replies.{heardAll, Holds, anyReplies}
@@ -148,6 +150,10 @@ served-after-a-mark = mark-stays
 
 served-after-power-off : (c : Card) (memory locks found : List ℕ) → Accepted c memory locks found → AcceptedNext (offEvent c memory locks found)
 served-after-power-off = off-stays
+
+-- So it is through any list of events, in any order.
+served-through-a-life : (events : List Event) (t : Tag) → AcceptedTag t → AcceptedTag (lived events t)
+served-through-a-life = lived-stays
 
 -- What an inventory frame does to a card is what it does to the record alone.
 an-inventory-frame : (c : Card) (locks frame : List ℕ) → asksInventory (flagsOf (getD frame 0 0)) ≡ true
