@@ -18,6 +18,7 @@ use Rattle.walk.specs.declared.Kind.{Kind}
 use Rattle.walk.specs.declared.Kind.the-variants as kind
 use Rattle.walk.specs.Record.{maskLength, started}
 use Rattle.walk.specs.Hear.{uidOf, isClean, judged}
+use Rattle.walk.proofs.HearWays.{walk-heard, ended-heard}
 use Rattle.field.specs.Field.{Arrival}
 use Rattle.field.specs.Found.{listed}
 use Rattle.field.specs.Replies.{Walked, heardIn, heardAll, Holds, anyReplies}
@@ -25,7 +26,6 @@ use Rattle.field.proofs.WaitSums.{slotTail}
 use Rattle.field.proofs.AnyReplies.{Walks, Fits, start-walks}
 use Rattle.field.proofs.Accepted.{walks-accepted}
 use Rattle.field.proofs.Callers.{slot-tail}
-use Rattle.field.proofs.WalkServed.{walk-heard, ended-heard}
 use Rattle.field.proofs.AnyStages.{Stage, hears, rests, once, after-slot}
 use Rattle.field.proofs.Stages.{running-of}
 

@@ -10,6 +10,7 @@ use Rattle.walk.specs.declared.Slot.{Slot}
 use Rattle.walk.specs.Record.{maskLength, isAccepted, isRunning}
 use Rattle.walk.specs.Hear.{judged, walkAfter, listAfter}
 use Rattle.walk.specs.Ask.{sent, roomAfter}
+use Rattle.walk.proofs.HearWays.{walk-heard, ended-heard}
 use Rattle.play.specs.Life.{Tag}
 use Rattle.field.specs.Field.{answering, replies, arrives}
 use Rattle.field.specs.Played.{Play, slotPlayed}
@@ -21,7 +22,7 @@ use Rattle.field.proofs.InStep.{slot-follows, self-follows}
 use Rattle.field.proofs.Callers.{called-callers, callers-fit, callers-judged, callers}
 use Rattle.field.proofs.RowHeard.{Hears, row-at, row-replies, both-map}
 use Rattle.field.proofs.RowAsked.{Fits, accepted-fits, walk-asked, row-hears}
-use Rattle.field.proofs.WalkServed.{walk-heard, room-left, ended-heard, ended-asked, nothing-reached}
+use Rattle.field.proofs.WalkServed.{room-left, ended-asked, nothing-reached}
 
 pub record SlotPlayed (family : ℕ) (tags₀ : List Tag) (p q : Play) : Type 0 where
   pub walk : q .walk ≡ walkAfter (p .walk) (slotOf (called (answering family tags₀) (p .walk)))

@@ -1,5 +1,5 @@
--- The walk's own two calls in a slot: hearing is not refused while it runs, and after an ending nothing is sent, heard or changed.
--- By the tests of the refusals. Assumes nothing.
+-- What asking leaves of the room and, after an ending, of the cards: the room keeps its length, nothing is sent and no card changed.
+-- By the tests of the refusal. Assumes nothing.
 use mathlib.Core.Path.{_≡_, refl, ap}
 use mathlib.Core.Bool.{true, false}
 use Prim.Native.Nat.{ℕ, _≤_, _<_}
@@ -11,22 +11,14 @@ use Rattle.lent.proofs.Over.{length-over}
 use Rattle.play.specs.Answer.{replyBytes}
 use Rattle.play.specs.Events.{answered, replied}
 use Rattle.walk.specs.declared.Walk.{Walk}
-use Rattle.walk.specs.declared.Kind.{Kind}
 use Rattle.walk.specs.declared.Send.{Send}
 use Rattle.walk.specs.declared.Send.the-variants.{Nothing, Mark, Request}
-use Rattle.walk.specs.Record.{places, isAccepted, isRunning}
-use Rattle.walk.specs.Hear as hear
-use Rattle.walk.specs.Hear.{judged, walkAfter, listAfter, hearing}
+use Rattle.walk.specs.Record.{isAccepted, isRunning}
 use Rattle.walk.specs.Ask as ask
 use Rattle.walk.specs.Ask.{sent, roomAsked, roomAfter, asking}
 use Rattle.walk.proofs.Requests.{length-request-most}
 use Rattle.play.specs.Life.{Tag, tagAfter}
 use Rattle.field.specs.Field.{reached, tagsAfter}
-
-pub walk-heard : (w : Walk) (kind : Kind) (bytes list : List ℕ) → isAccepted w ≡ true → isRunning w ≡ true → 64 ≤ length list
-    → hearing w kind bytes list ≡ record { walk = walkAfter w (judged w kind bytes); list = listAfter w (judged w kind bytes) list; number = 0 }
-unfolding hearing hear.refusal places
-walk-heard w kind bytes list e running h = rw (e, running, le-leb 64 (length list) h)
 
 -- the room keeps its length
 pub room-left : (w : Walk) (s : Send) (room : List ℕ) → w .level < 16 → 14 ≤ length room → length (roomAfter w s room) ≡ length room
@@ -36,11 +28,6 @@ room-left w Mark room h g = refl
 room-left w (Request n) room h g = length-over (ask.request w) room (omega (arith, length-request-most w h))
 
 -- ---- after an ending
-
-pub ended-heard : (w : Walk) (kind : Kind) (bytes list : List ℕ) → isAccepted w ≡ true → isRunning w ≡ false
-    → hearing w kind bytes list ≡ record { walk = w; list = list; number = 6 }
-unfolding hearing hear.refusal
-ended-heard w kind bytes list e ended = rw (e, ended)
 
 pub ended-asked : (w : Walk) (room : List ℕ) → isAccepted w ≡ true → isRunning w ≡ false
     → asking w room ≡ record { room = room; number = 0; send = Nothing }

@@ -7,9 +7,5 @@ mod OneSlot
 mod Slots
 mod Printed
 mod Ways
-mod Answers
-pub mod Signs
-pub mod OverUids
 pub mod Start
-pub mod Examples
 pub mod Unique

@@ -15,7 +15,7 @@ use Rattle.walk.specs.Marks.{deepest}
 use Rattle.walk.specs.Record.{mostRounds, isRunning, isAccepted, remade, ended, counted, marked, atNextSlot, openedAt, opened}
 use Rattle.walk.specs.Hear.{Hearing, refusal, judged, endsAtOnce, noted, listNoted, turned, passed, walkAfter, listAfter, hearing}
 use Rattle.walk.proofs.Accepted.{started-accepted, heard-accepted}
-use Rattle.field.proofs.WalkServed.{walk-heard}
+use Rattle.walk.proofs.HearWays.{walk-heard}
 use Rattle.row.specs.declared.Air.{Air}
 use Rattle.row.specs.declared.Desk.{Desk}
 use Rattle.row.specs.Row.{airKind, airBytes, deskAfter}

@@ -9,7 +9,7 @@ use Rattle.card.specs.declared.Card.{Card}
 use Rattle.walk.specs.declared.Walk.{Walk}
 use Rattle.walk.specs.Record.{isRunning}
 use Rattle.walk.specs.Hear.{Hearing}
-use Rattle.field.proofs.WalkServed.{ended-heard}
+use Rattle.walk.proofs.HearWays.{ended-heard}
 use Rattle.row.specs.declared.Air.{Air}
 use Rattle.row.specs.declared.Desk.{Desk}
 use Rattle.row.specs.declared.Slotted.{Slotted}

@@ -1,3 +1,1 @@
 pub mod Drawn
-pub mod Meaning
-pub mod Examples

@@ -1,7 +1,5 @@
-pub mod InputMeaning
 mod Digits
 mod Printed
 mod BenchWays
 pub mod Start
-pub mod Examples
 pub mod Unique

@@ -1,4 +1,3 @@
 pub mod Output
 pub mod Bench
 pub mod Steps
-pub mod Examples

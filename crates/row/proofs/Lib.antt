@@ -10,8 +10,4 @@ pub mod Accepted
 mod Values
 mod Lending
 mod RowField
-pub mod CardTurned
-pub mod RowTurned
-pub mod SlotsAlike
-pub mod Meaning
 pub mod Unique

@@ -1,4 +1,3 @@
 pub mod Row
 pub mod Play
-pub mod Meaning
 pub mod Steps

@@ -68,24 +68,23 @@ use Rattle.field.proofs.Examples.{field-of-three}
 use Rattle.row.specs.Row.{cardsOf}
 use Rattle.row.specs.Row as row
 use Rattle.row.specs.Play.{freshDesk, ended}
-use Rattle.row.specs.Meaning.{Meaning, meaning}
-use Rattle.row.proofs.Meaning.{bench-meets-demand3}
 use Rattle.lines.specs.Input.{badLine, uids}
 use Rattle.lines.specs.Lines.{freshLines, readFrom}
 use Rattle.lines.specs.Lines as reading
 use Rattle.lines.proofs.Reading.{reads-input}
 use Rattle.rack.specs.Output.{report}
 use Rattle.rack.specs.Bench.{printed}
-use Rattle.rack.specs.Examples.{Bench}
-use Rattle.rack.proofs.InputMeaning.{printed-meets-demand3}
 use Rattle.rack.proofs.Start.{printed-of-start}
-use Rattle.rack.proofs.Examples.{bench}
 use Rattle.picture.specs.Drawn.{pictured}
-use Rattle.picture.specs.Meaning.{Signs, signs}
-use Rattle.picture.specs.Examples.{ThreeDrawn}
-use Rattle.picture.proofs.Signs.{every-sign}
 use Rattle.picture.proofs.Start.{pictured-of-start}
-use Rattle.picture.proofs.Examples.{picture-of-three}
+use Rattle.meaning.specs.Bench.{Meaning, meaning}
+use Rattle.meaning.specs.Signs.{Signs, signs}
+use Rattle.meaning.specs.Examples.{Bench, ThreeDrawn}
+use Rattle.meaning.proofs.Bench.{bench-meets-demand3}
+use Rattle.meaning.proofs.Printed.{printed-meets-demand3}
+use Rattle.meaning.proofs.Signs.{every-sign}
+use Rattle.meaning.proofs.ThreePrinted.{bench}
+use Rattle.meaning.proofs.ThreeDrawn.{picture-of-three}
 
 -- ---- The check
 

@@ -4,7 +4,7 @@ use mathlib.Core.Bool.{Bool, true, false, cond}
 use mathlib.Core.List.{List}
 use Prim.Native.Nat.{ℕ, suc, _-_, _≤_, _<_}
 use native.Mathlib.Omega.{arith}
-use borrow.Author.Tests.{lt-ltb, le-ltb, ltb-true, leb-true, ne-eqb}
+use borrow.Author.Tests.{lt-ltb, le-ltb, ltb-true, leb-true, le-leb, ne-eqb}
 use lib.Dec.{leb, ltb, eqb}
 use lib.ListN.{length}
 use Rattle.walk.specs.declared.Walk.{Walk}
@@ -98,3 +98,16 @@ unfolding hearing
 hears-served w kind bytes list n slot r left is e heard after =
     let served : refusal w (length list) ≡ 0 = sym is ∙ e in
     record { walk = rw (served, ← heard) (after .walk-left); number = rw served; list-left = rw (served, ← heard) (after .list-left) }
+
+-- ---- what hearing comes to
+
+pub walk-heard : (w : Walk) (kind : Kind) (bytes list : List ℕ) → isAccepted w ≡ true → isRunning w ≡ true → 64 ≤ length list
+    → hearing w kind bytes list ≡ record { walk = walkAfter w (judged w kind bytes); list = listAfter w (judged w kind bytes) list; number = 0 }
+unfolding hearing refusal places
+walk-heard w kind bytes list e running h = rw (e, running, le-leb 64 (length list) h)
+
+-- after an ending
+pub ended-heard : (w : Walk) (kind : Kind) (bytes list : List ℕ) → isAccepted w ≡ true → isRunning w ≡ false
+    → hearing w kind bytes list ≡ record { walk = w; list = list; number = 6 }
+unfolding hearing refusal
+ended-heard w kind bytes list e rests = rw (e, rests)

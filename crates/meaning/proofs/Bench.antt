@@ -15,11 +15,11 @@ use Rattle.field.specs.Demand.{AllObey, none, more, cards, Demand3, demand3}
 use Rattle.field.proofs.InStep.{byte-served}
 use Rattle.field.proofs.Stages.{stage-fresh}
 use Rattle.field.proofs.Demand3.{uids-fit, walk-of-a-field}
 use Rattle.row.specs.declared.Desk.{Desk}
 use Rattle.row.specs.Row.{Played, cardOf, cardsOf, noBytes, playedFor}
 use Rattle.row.specs.Play.{noUids, freshDesk, mostSlots, ended}
-use Rattle.row.specs.Meaning.{Meaning, meaning}
-use Rattle.row.proofs.SlotsAlike.{benchOf, played-alike}
+use Rattle.meaning.specs.Bench.{Meaning, meaning}
+use Rattle.meaning.proofs.SlotsAlike.{benchOf, played-alike}
 
 -- ---- the bench's cards as a field
 

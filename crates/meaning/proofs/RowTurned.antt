@@ -22,9 +22,9 @@ use Rattle.field.proofs.Reply.{message, message-bytes}
 use Rattle.field.proofs.Callers.{callers, messages, uids, AllFit, callers-fit, callers-judged, called-callers}
 use Rattle.field.proofs.RowHeard.{both-map}
 use Rattle.field.proofs.RowAsked.{Fits, accepted-fits}
 use Rattle.row.specs.declared.Air.{Air}
 use Rattle.row.specs.Row.{turnOf, stillAir, crowded, airWith, rowAir, rowAfter, airKind, airBytes}
-use Rattle.row.proofs.CardTurned.{stepped, request-turned, mark-turned}
+use Rattle.meaning.proofs.CardTurned.{stepped, request-turned, mark-turned}
 
 -- a tag t that was t₀ at the start: its card hears
 unfoldable pub Turned : Walk → Tag → Tag → Type 0

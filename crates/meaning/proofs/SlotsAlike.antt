@@ -13,21 +13,22 @@ use Rattle.walk.specs.declared.Slot.{Slot}
 use Rattle.walk.specs.Record.{isAccepted, isRunning}
 use Rattle.walk.specs.Hear.{judged, walkAfter, listAfter}
 use Rattle.walk.specs.Ask.{Asking}
+use Rattle.walk.proofs.HearWays.{walk-heard, ended-heard}
 use Rattle.field.specs.Field.{Tag, answering}
 use Rattle.field.specs.Played.{Play}
 use Rattle.field.specs.Played as field
 use Rattle.field.specs.Demand.{AllObey, cards}
 use Rattle.field.proofs.Called.{called, slotOf}
 use Rattle.field.proofs.InTime.{Both, Before}
-use Rattle.field.proofs.WalkServed.{walk-heard, ended-heard, ended-asked}
+use Rattle.field.proofs.WalkServed.{ended-asked}
 use Rattle.field.proofs.PlayedSlot.{SlotPlayed, slot-played, ended-played}
 use Rattle.field.proofs.Accepted.{walks-accepted}
 use Rattle.field.proofs.Stages.{Stage, hears, rests, running-of, stage-slot}
 use Rattle.field.proofs.Demand3.{cards-of}
 use Rattle.row.specs.declared.Air.{Air}
 use Rattle.row.specs.declared.Desk.{Desk}
 use Rattle.row.specs.Row.{Played, noBytes, sentOf, heardBy, turnBy, turnOf, stillAir, airKind, airBytes, rowAir, rowAfter, deskAfter, slotPlayed, playedFor}
-use Rattle.row.proofs.RowTurned.{Turned, row-turned, row-left, row-judged}
+use Rattle.meaning.proofs.RowTurned.{Turned, row-turned, row-left, row-judged}
 
 abbrev deskOf : Walk → List ℕ → Desk
 deskOf w list = record { walk = w; list = list }

@@ -1,10 +1,27 @@
--- The bench field of 01, drawn: for the page's three lines the heading, two rounds, and what the bench prints.
+-- 01, Bench and Examples: "the bench field above", its three lines, what is printed for them, and the walk over them drawn.
 use mathlib.Core.Path.{_≡_}
 use mathlib.Core.List.{List, [], _∷_, _++_}
 use Prim.Native.Nat.{ℕ}
 use Rattle.lines.specs.Examples.{threeLines}
-use Rattle.rack.specs.Examples.{threePrinted}
+use Rattle.rack.specs.Bench.{printed}
 use Rattle.picture.specs.Drawn.{pictured}
+
+-- "it prints, whole": verdict complete, rounds 2, cards 3, and the three UIDs
+abbrev pub threePrinted : List ℕ
+threePrinted =
+    0x76 ∷ 0x65 ∷ 0x72 ∷ 0x64 ∷ 0x69 ∷ 0x63 ∷ 0x74 ∷ 0x20 ∷ 0x63 ∷ 0x6f ∷ 0x6d ∷ 0x70 ∷ 0x6c ∷ 0x65 ∷ 0x74 ∷ 0x65 ∷ 0x0a
+    ∷ 0x72 ∷ 0x6f ∷ 0x75 ∷ 0x6e ∷ 0x64 ∷ 0x73 ∷ 0x20 ∷ 0x32 ∷ 0x0a
+    ∷ 0x63 ∷ 0x61 ∷ 0x72 ∷ 0x64 ∷ 0x73 ∷ 0x20 ∷ 0x33 ∷ 0x0a
+    ∷ 0x45 ∷ 0x30 ∷ 0x30 ∷ 0x34 ∷ 0x30 ∷ 0x31 ∷ 0x30 ∷ 0x30 ∷ 0x30 ∷ 0x30 ∷ 0x30 ∷ 0x30 ∷ 0x30 ∷ 0x30 ∷ 0x30 ∷ 0x35 ∷ 0x0a
+    ∷ 0x45 ∷ 0x30 ∷ 0x30 ∷ 0x34 ∷ 0x30 ∷ 0x31 ∷ 0x30 ∷ 0x30 ∷ 0x30 ∷ 0x30 ∷ 0x30 ∷ 0x30 ∷ 0x30 ∷ 0x30 ∷ 0x31 ∷ 0x31 ∷ 0x0a
+    ∷ 0x45 ∷ 0x30 ∷ 0x30 ∷ 0x34 ∷ 0x30 ∷ 0x31 ∷ 0x30 ∷ 0x30 ∷ 0x30 ∷ 0x30 ∷ 0x30 ∷ 0x30 ∷ 0x30 ∷ 0x30 ∷ 0x32 ∷ 0x31 ∷ 0x0a ∷ []
+
+-- "For E004010000000011, E004010000000021, E004010000000005 it prints, whole", "the byte 0A, which the last may lack"
+pub record Bench : Type 0 where
+  pub prints : printed threeLines ≡ threePrinted
+  pub prints-ended : printed (threeLines ++ 0x0a ∷ []) ≡ threePrinted
+
+-- ---- drawn
 
 -- the heading, round 1 over all, and round 2 over those that end in 1
 abbrev pub threeDrawn : List ℕ

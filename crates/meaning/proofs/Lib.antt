@@ -1,0 +1,10 @@
+mod CardTurned
+mod RowTurned
+mod SlotsAlike
+pub mod Bench
+pub mod Printed
+mod Answers
+pub mod Signs
+mod OverUids
+pub mod ThreePrinted
+pub mod ThreeDrawn

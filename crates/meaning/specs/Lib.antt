@@ -1,0 +1,3 @@
+pub mod Bench
+pub mod Signs
+pub mod Examples
