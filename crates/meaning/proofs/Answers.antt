@@ -19,10 +19,10 @@ use Rattle.field.proofs.InTime.{inStep, calls, Both, none, more}
 use Rattle.field.proofs.Callers.{callers, uids}
 use Rattle.row.specs.declared.Air.{Air}
 use Rattle.row.specs.Row.{turnOf, stillAir, crowded, airWith, rowAir}
-use Rattle.meaning.proofs.CardTurned.{stepped}
-use Rattle.meaning.proofs.RowTurned.{Turned}
 use Rattle.picture.specs.Drawn.{sign}
 use Rattle.meaning.specs.Signs.{signOf, signFor}
+use Rattle.meaning.proofs.CardTurned.{stepped}
+use Rattle.meaning.proofs.RowTurned.{Turned}
 
 -- the answers with those of the cards cs, 2 for two or more
 unfoldable answered : ℕ → List Card → ℕ

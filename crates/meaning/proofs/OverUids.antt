@@ -21,11 +21,11 @@ use Rattle.field.proofs.Stood.{Stand, stood, stoodFor, standOf, played-stood}
 use Rattle.field.proofs.Demand3.{uids-fit}
 use Rattle.row.specs.Row.{Played, noBytes, stillAir, rowAir, slotPlayed, playedFor, cardsOf}
 use Rattle.row.specs.Play.{noUids, freshDesk}
+use Rattle.picture.specs.Drawn.{sign, lineHead, slotDrawn, drawnFor}
+use Rattle.meaning.specs.Signs.{signFor}
 use Rattle.meaning.proofs.RowTurned.{Turned, row-turned}
 use Rattle.meaning.proofs.SlotsAlike.{benchOf, played-alike}
 use Rattle.meaning.proofs.Bench.{tagsOf, tags-obey, tags-answer, freshField, bench-is-a-field}
-use Rattle.picture.specs.Drawn.{sign, lineHead, slotDrawn, drawnFor}
-use Rattle.meaning.specs.Signs.{signFor}
 use Rattle.meaning.proofs.Signs.{sign-called}
 
 -- what a slot with a sign adds

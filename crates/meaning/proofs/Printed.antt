@@ -4,12 +4,12 @@ use mathlib.Core.List.{List}
 use Prim.Native.Nat.{ℕ}
 use borrow.Author.Tests.{eq-eqb}
 use Rattle.row.specs.Play.{ended}
-use Rattle.meaning.specs.Bench.{Meaning, meaning}
-use Rattle.meaning.proofs.Bench.{bench-meets-demand3}
 use Rattle.lines.specs.Input.{badLine, uids}
 use Rattle.lines.proofs.UidsFit.{input-uids-fit}
 use Rattle.rack.specs.Output.{report}
 use Rattle.rack.specs.Bench.{printed}
+use Rattle.meaning.specs.Bench.{Meaning, meaning}
+use Rattle.meaning.proofs.Bench.{bench-meets-demand3}
 
 pub printed-meets-demand3 : (input : List ℕ) → badLine input ≡ 0
     → (printed input ≡ report (ended (uids input))) × Meaning (uids input) (ended (uids input))

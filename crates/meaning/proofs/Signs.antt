@@ -22,11 +22,11 @@ use Rattle.field.proofs.Stages.{Stage, hears, rests, running-of, stage-fresh, s
 use Rattle.field.proofs.Demand3.{uids-fit}
 use Rattle.row.specs.Row.{Played, noBytes, stillAir, rowAir}
 use Rattle.row.specs.Play.{noUids}
+use Rattle.picture.specs.Drawn.{sign}
+use Rattle.meaning.specs.Signs.{signOf, signFor, airAt, calledAt, Signs, signs}
 use Rattle.meaning.proofs.RowTurned.{Turned, row-turned, row-judged}
 use Rattle.meaning.proofs.SlotsAlike.{benchOf}
 use Rattle.meaning.proofs.Bench.{tagsOf, tags-obey, tags-answer, freshField, bench-is-a-field}
-use Rattle.picture.specs.Drawn.{sign}
-use Rattle.meaning.specs.Signs.{signOf, signFor, airAt, calledAt, Signs, signs}
 use Rattle.meaning.proofs.Answers.{sign-callers, sign-slot}
 
 -- ---- a slot of a field that is heard

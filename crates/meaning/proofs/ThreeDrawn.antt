@@ -15,15 +15,15 @@ use Rattle.field.specs.Examples.{three, threeEnd}
 use Rattle.field.proofs.Examples.{field-of-three}
 use Rattle.row.specs.Row.{Played, noBytes}
 use Rattle.row.specs.Play.{noUids, mostSlots, ended}
-use Rattle.meaning.proofs.SlotsAlike.{benchOf}
-use Rattle.meaning.proofs.Bench.{tagsOf, tags-obey, tags-answer, freshField, bench-is-a-field}
 use Rattle.lines.proofs.Examples.{three-fit, three-read}
 use Rattle.hex.specs.Digits.{digit, hexDigits}
 use Rattle.rack.specs.Output.{decimal}
-use Rattle.meaning.proofs.ThreePrinted.{bench}
 use Rattle.picture.specs.Drawn.{roundShown, tailShown, lineHead, heading, twinsLine, drawn, pictured}
 use Rattle.meaning.specs.Signs.{signFor}
 use Rattle.meaning.specs.Examples.{threeDrawn, ThreeDrawn}
+use Rattle.meaning.proofs.SlotsAlike.{benchOf}
+use Rattle.meaning.proofs.Bench.{tagsOf, tags-obey, tags-answer, freshField, bench-is-a-field}
+use Rattle.meaning.proofs.ThreePrinted.{bench}
 use Rattle.meaning.proofs.OverUids.{signed, overUids, bench-drawn}
 
 three-over : heading ++ overUids three mostSlots (record { walk = started 256; list = noUids }) ≡ threeDrawn

@@ -13,14 +13,14 @@ use Rattle.field.specs.Examples.{three, threeEnd}
 use Rattle.field.proofs.Examples.{field-of-three}
 use Rattle.row.specs.Row.{Played, noBytes}
 use Rattle.row.specs.Play.{noUids, mostSlots, ended}
-use Rattle.meaning.proofs.SlotsAlike.{benchOf}
-use Rattle.meaning.proofs.Bench.{tagsOf, tags-obey, tags-answer, freshField, bench-is-a-field}
 use Rattle.lines.specs.Examples.{threeLines}
 use Rattle.lines.proofs.Examples.{ThreeRead, three-fit, three-read, three-read-ended}
 use Rattle.hex.specs.Digits.{digit, hexDigits}
 use Rattle.rack.specs.Output.{word, decimal, uidLines, verdictLine, heading, report}
 use Rattle.rack.specs.Bench.{printed}
 use Rattle.meaning.specs.Examples.{threePrinted, Bench}
+use Rattle.meaning.proofs.SlotsAlike.{benchOf}
+use Rattle.meaning.proofs.Bench.{tagsOf, tags-obey, tags-answer, freshField, bench-is-a-field}
 
 -- ---- the report of the field's walk
 
