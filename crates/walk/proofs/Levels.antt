@@ -9,10 +9,10 @@ use native.Mathlib.Decide.{decLt}
 use native.Mathlib.Omega.{arith}
 use borrow.Author.Tests.{eqb-true, eqb-false, eq-eqb, ne-eqb}
 use lib.Dec.{eqb}
-use lib.ListN.{getD, set}
+use lib.ListN.{length, getD, set, length-set}
 use lib.Pow.{pow-pos, pow-add, shl-exact, shr-lt, split}
 use lib.Seq.{getD-set-other}
-use Rattle.walk.specs.Marks.{levels, waits, lowestFrom, lowest, deepestOf, deepest}
+use Rattle.walk.specs.Marks.{waits, lowestFrom, lowest, deepestOf, deepest}
 
 -- ---- one level's number
 
@@ -121,5 +121,5 @@ deepest-of-set marks level m k (suc n) h d = go (λ e. deepest-of-set marks leve
         (cond-below (eqb (getD marks n 0) 0) (deepestOf marks n) (deepestOf (set marks level m) n) (suc n) k before d)
 
 pub deepest-set : (marks : List ℕ) (level m k : ℕ) → level < k → deepest marks ≤ k → deepest (set marks level m) ≤ k
-unfolding levels deepest
-deepest-set marks level m k h d = deepest-of-set marks level m k 16 h d
+unfolding deepest
+deepest-set marks level m k h d = rw (length-set marks level m) (deepest-of-set marks level m k (length marks) h d)

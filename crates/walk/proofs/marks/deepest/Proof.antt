@@ -1,5 +1,7 @@
 -- `walk::marks::deepest` meets its contract. The loop's invariant: the deepest of the first n levels is the deepest of all. Assumes nothing.
-use mathlib.Core.Path.{_≡_, refl, sym, _∙_}
+use borrow.Author.Needs.{needs}
+use mathlib.Core.Path.{_≡_, refl, sym, ap, _∙_}
+use lib.ListN.{length}
 use Prim.Native.Nat.{_≤_}
 use native.Mathlib.Omega.{arith}
 use Rattle.walk.specs.Marks.{levels, deepestOf, deepest}
@@ -15,7 +17,9 @@ abbrev μ-loop : tie.MeasureT-loop
 
 loop-holds : tie.Need-loop-holds Inv-loop μ-loop
 unfolding levels deepest
-loop-holds c = (omega arith, refl)
+loop-holds c =
+    let long : length (c .args .t1) ≡ levels = search needs in
+    (omega arith, ap (deepestOf (c .args .t1)) (sym long))
 
 sub-level : tie.Need-sub-level Inv-loop μ-loop
 sub-level c = omega arith
