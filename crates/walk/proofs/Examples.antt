@@ -1,12 +1,13 @@
 -- 01's examples of the walk, by computation and by the tests of the definitions: the empty field, and the three numbers 481, 64 and 15.
 -- Assumes nothing.
 use mathlib.Core.Path.{_≡_, refl, ap, _∙_}
-use mathlib.Core.Bool.{true}
+use mathlib.Core.Bool.{true, _&&_}
 use mathlib.Core.List.{List, []}
-use Prim.Native.Nat.{ℕ, zero, suc, _*_, _≤_, _<_}
+use Prim.Native.Nat.{ℕ, zero, suc, _+_, _*_, _^_, _≤_, _<_}
 use native.Mathlib.Numerals.{add-one}
 use native.Mathlib.Omega.{arith}
 use borrow.Author.Tests.{le-leb, lt-ltb}
+use lib.Dec.{leb, ltb}
 use lib.ListN.{length}
 use Rattle.walk.specs.declared.Walk.{Walk}
 use Rattle.walk.specs.declared.Kind.the-variants.{Silence}
@@ -64,6 +65,12 @@ slots : mostSlots 16 ≡ 16 * 481
 unfolding mostSlots
 slots = rw limit
 
+tests : (w : Walk) → levelsOf w ≡ 16 → isAccepted w ≡ (ltb (w .level) 16 && (leb (w .slot) 15 && (leb (w .count) 64
+    && (leb 1 (w .rounds) && (leb (w .rounds) 481 && (ltb (w .mask) (2 ^ (4 * w .level))
+    && (leb (deepest (w .marks)) (w .level + 1) && ltb (deepest (w .marks)) 16)))))))
+unfolding isAccepted marksFit places maskLength levelsOf
+tests w l = rw (l, limit)
+
 pub walks : Walks
 unfolding walkAfter endsAtOnce noted turned places
 walks =
@@ -75,6 +82,7 @@ walks =
       no-place-65 = λ w uid e. rw e;
       level-14-marked = λ w l e. rw (l, e);
       level-15-twins = λ w l e. rw (l, e);
+      number-10 = tests;
       sixteen-levels = λ family. sixteen family;
       most-rounds = limit;
       most-slots = slots;

@@ -1,13 +1,15 @@
 -- 01, Examples: "an empty field: complete, rounds 1"; the three numbers 481, 64 and 15 of the endings; and the numbers of a walk of 16 levels.
 use mathlib.Core.Path.{_≡_}
 use mathlib.Core.List.{List, []}
-use Prim.Native.Nat.{ℕ, zero, suc, _*_, _≤_}
+use mathlib.Core.Bool.{_&&_}
+use Prim.Native.Nat.{ℕ, zero, suc, _+_, _*_, _^_, _≤_}
+use lib.Dec.{leb, ltb}
 use lib.ListN.{length}
 use Rattle.walk.specs.declared.Walk.{Walk}
 use Rattle.walk.specs.declared.Kind.the-variants.{Silence}
 use Rattle.walk.specs.declared.Slot.the-variants.{Silent, Clashed, Clean}
 use Rattle.walk.specs.Marks.{levels, deepest}
-use Rattle.walk.specs.Record.{levelsOf, mostRounds, mostSlots, complete, twins, full, overrun, ended, counted, marked, opened, noMarks, started}
+use Rattle.walk.specs.Record.{levelsOf, mostRounds, mostSlots, complete, twins, full, overrun, isAccepted, ended, counted, marked, opened, noMarks, started}
 use Rattle.walk.specs.Hear.{passed, walkAfter, Hearing, hearing}
 
 -- n silent slots heard one after another, with a list
@@ -33,6 +35,11 @@ pub record Walks : Type 0 where
   -- "twins (a clash at k=15, at once)"
   pub level-14-marked : (w : Walk) → levelsOf w ≡ 16 → w .level ≡ 14 → walkAfter w Clashed ≡ passed (marked w)
   pub level-15-twins : (w : Walk) → levelsOf w ≡ 16 → w .level ≡ 15 → walkAfter w Clashed ≡ ended twins w
+  -- "walk record: level or slot over 15, list count over 64, rounds 0 or over 481, mask bits above its length (4 × level), a clash mark at a level
+  -- deeper than its own or at the last level"
+  pub number-10 : (w : Walk) → levelsOf w ≡ 16 → isAccepted w ≡ (ltb (w .level) 16 && (leb (w .slot) 15 && (leb (w .count) 64
+      && (leb 1 (w .rounds) && (leb (w .rounds) 481 && (ltb (w .mask) (2 ^ (4 * w .level))
+      && (leb (deepest (w .marks)) (w .level + 1) && ltb (deepest (w .marks)) 16)))))))
   -- "its 16 levels", "481 for 64", and sixteen slots in each of 481 rounds
   pub sixteen-levels : (family : ℕ) → levelsOf (started family) ≡ 16
   pub most-rounds : mostRounds 16 ≡ 481
