@@ -3,7 +3,7 @@
 use mathlib.Core.Path.{_≡_, refl}
 use mathlib.Core.Bool.{Bool, true, false, cond}
 use mathlib.Core.List.{List}
-use Prim.Native.Nat.{ℕ, zero, suc, _+_, _<_}
+use Prim.Native.Nat.{ℕ, zero, suc, _+_, _≤_, _<_}
 use native.Mathlib.Omega.{arith}
 use borrow.Author.Tests.{ltb-true, eqb-true}
 use lib.Dec.{ltb, eqb}
@@ -12,17 +12,36 @@ use Rattle.walk.specs.declared.Walk.{Walk}
 use Rattle.walk.specs.declared.Kind.{Kind}
 use Rattle.walk.specs.declared.Slot.{Slot}
 use Rattle.walk.specs.declared.Slot.the-variants.{Silent, Clashed, Clean}
-use Rattle.walk.specs.Marks.{levels, deepestOf, deepest, withMark, withoutMark, lowest}
-use Rattle.walk.specs.Record.{places, levelsOf, mostRounds, maskLength, marksFit, isAccepted}
+use Rattle.walk.specs.Marks.{levels, deepest, withMark, withoutMark, lowest}
+use Rattle.walk.specs.Record.{levelsOf, mostRounds, maskLength, isAccepted}
 use Rattle.walk.specs.Record.{remade, ended, counted, marked, atNextSlot, openedAt, opened, noMarks, startedOf, started}
 use Rattle.walk.specs.Hear.{judged, endsAtOnce, noted, turned, passed, walkAfter, refusal, Hearing, hearing}
-use Rattle.walk.proofs.Levels.{lowest-is-slot, deepest-set}
+use Rattle.walk.proofs.Levels.{lowest-is-slot, deepest-none, deepest-set}
+use Rattle.walk.proofs.LevelsStay.{levels-started}
 use Rattle.walk.proofs.Limits.{Accepted, accepted-of-is-accepted, is-accepted-of-accepted, opened-mask-fits}
 use Rattle.walk.proofs.HearWays.{clash-goes-on, clean-goes-on}
 
+pub started-facts : (levels family : ℕ) → 1 ≤ levels → Accepted (startedOf levels family)
+unfolding startedOf maskLength mostRounds
+started-facts levels family h =
+    let long : length (noMarks levels) ≡ levels = levels-started levels family in
+    record {
+      level = rw long (omega arith);
+      slot = omega arith;
+      count = omega arith;
+      first-round = omega arith;
+      last-round = rw long (omega arith);
+      mask = omega arith;
+      own-level = rw (deepest-none levels) (omega arith);
+      last-level = rw (deepest-none levels, long) (omega arith);
+    }
+
+pub started-of-accepted : (levels family : ℕ) → 1 ≤ levels → isAccepted (startedOf levels family) ≡ true
+started-of-accepted levels family h = is-accepted-of-accepted (startedOf levels family) (started-facts levels family h)
+
 pub started-accepted : (family : ℕ) → isAccepted (started family) ≡ true
-unfolding isAccepted started startedOf noMarks levels marksFit deepest deepestOf levelsOf places mostRounds maskLength
-started-accepted family = refl
+unfolding started levels
+started-accepted family = started-of-accepted levels family (omega arith)
 
 -- by a test, either way
 by-test : (b : Bool) (x y : Walk) → (b ≡ true → Accepted x) → (b ≡ false → Accepted y) → Accepted (cond b x y)
