@@ -67,6 +67,14 @@ is-accepted-of-accepted w a =
       lt-ltb (deepest (w .marks)) (length (w .marks)) (a .last-level),
     )
 
+-- of a walk of 16 levels at the most: a level that a mask of 60 bits serves, and rounds of three digits
+pub level-most : {w : Walk} → Accepted w → length (w .marks) ≤ 16 → w .level < 16
+level-most a h = omega (arith, a .level, h)
+
+pub rounds-most : {w : Walk} → Accepted w → length (w .marks) ≤ 16 → w .rounds ≤ 481
+unfolding mostRounds
+rounds-most a h = omega (arith, a .last-round, h)
+
 -- the digit above 14 digits at the most is within 60 bits, and so is what stands below it
 pub unit-most : (j : ℕ) → j < 15 → 2 ^ (4 * j) ≤ 2 ^ 56
 unit-most j h = pow-mono {i = 4 * j} {j = 56} (omega arith)
