@@ -34,7 +34,8 @@ cast-result : tie.Need-cast-result
 unfolding levels
 cast-result c =
     let asked = c .before .before .before .before .before .ask in
-    let long : length (c .before .before .before .before .before .before .before .args .walk .marks) ≡ levels = search needs in
+    let start = c .before .before .before .before .before .before .before .before in
+    let long : length (start .args .walk .marks) ≡ levels = search (needs, start .good) in
     sfits-of (omega (arith, c .length-of .ensures, length-served-most _ _ _ _ (omega (arith, long)) (asked .ensures) (c .before .if1 .left)))
 
 same-length-2 : tie.Need-same-length-2
@@ -44,7 +45,8 @@ returns-2 : tie.Need-returns-2
 unfolding levels
 returns-2 c =
     let asked = c .before .before .before .before .before .ask in
-    let long : length (c .before .before .before .before .before .before .before .args .walk .marks) ≡ levels = search needs in
+    let start = c .before .before .before .before .before .before .before .before in
+    let long : length (start .args .walk .marks) ≡ levels = search (needs, start .good) in
     let most = length-served-most _ _ _ _ (omega (arith, long)) (asked .ensures) (c .before .if1 .left) in
     asks-served _ _ _ _ _ (asked .ensures) (c .before .if1 .left)
     (toZ-pos w64 _ (omega (arith, c .length-of .ensures, most)) ∙ ap pos (c .length-of .ensures))
