@@ -12,7 +12,9 @@ use Rattle.field.specs.Found.{listed}
 use Rattle.field.specs.Examples.{three, threeEnd}
 use Rattle.field.proofs.Examples.{field-of-three}
 use Rattle.row.specs.Row.{Played, noBytes}
-use Rattle.row.specs.Play.{noUids, mostSlots, ended}
+use Rattle.walk.specs.Marks.{levels}
+use Rattle.walk.specs.Record.{mostRounds, mostSlots}
+use Rattle.row.specs.Play.{noUids, ended}
 use Rattle.row.proofs.SlotsAlike.{benchOf}
 use Rattle.row.proofs.Meaning.{tagsOf, tags-obey, tags-answer, freshField, bench-is-a-field}
 use Rattle.lines.specs.Examples.{threeLines}
@@ -44,7 +46,7 @@ report-field =
     (field-of-three .lists 256 (tagsOf three) noUids noBytes (tags-obey three three-fit) (omega arith) (omega arith) (tags-answer three))
 
 report-ended : report (ended three) ≡ threePrinted
-unfolding ended mostSlots
+unfolding ended mostSlots mostRounds levels
 report-ended = ap (λ (q : Played). report (q .desk)) (bench-is-a-field three three-fit (16 * 481)) ∙ report-field
 
 -- ---- what is printed

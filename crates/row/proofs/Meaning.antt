@@ -17,7 +17,9 @@ use Rattle.field.proofs.Stages.{stage-fresh}
 use Rattle.field.proofs.Demand3.{uids-fit, walk-of-a-field}
 use Rattle.row.specs.declared.Desk.{Desk}
 use Rattle.row.specs.Row.{Played, cardOf, cardsOf, noBytes, playedFor}
-use Rattle.row.specs.Play.{noUids, freshDesk, mostSlots, ended}
+use Rattle.walk.specs.Marks.{levels}
+use Rattle.walk.specs.Record.{mostRounds, mostSlots}
+use Rattle.row.specs.Play.{noUids, freshDesk, ended}
 use Rattle.row.specs.Meaning.{Meaning, meaning}
 use Rattle.row.proofs.SlotsAlike.{benchOf, played-alike}
 
@@ -88,7 +90,7 @@ field-demand us h =
     (walk-of-a-field 256 (tagsOf us) noUids noBytes (tags-obey us h) (omega arith) (omega arith))
 
 pub bench-meets-demand3 : meaning
-unfolding meaning Meaning ended mostSlots benchOf
+unfolding meaning Meaning ended mostSlots mostRounds levels benchOf
 bench-meets-demand3 us h =
     subst (λ (d : Desk). Found us (d .walk) (d .list)) (sym (ap (λ (q : Played). q .desk) (bench-is-a-field us h (16 * 481))))
     (field-demand us h .found)
