@@ -10,7 +10,7 @@ use Rattle.walk.proofs.marks.deepest.Statement.{statement}
 use Rattle.walk.proofs.marks.deepest.Tie as tie
 
 abbrev Inv-loop : tie.InvT-loop
-Inv-loop marks n₀ n = (n ≤ 16) × (deepestOf marks n ≡ deepest marks)
+Inv-loop marks n₀ n = (n ≤ levels) × (deepestOf marks n ≡ deepest marks)
 
 abbrev μ-loop : tie.MeasureT-loop
 μ-loop marks n₀ n = n
@@ -25,12 +25,15 @@ sub-level : tie.Need-sub-level Inv-loop μ-loop
 sub-level c = omega arith
 
 mul-if1 : tie.Need-mul-if1 Inv-loop μ-loop
+unfolding levels
 mul-if1 c = omega arith
 
 array-read-if1 : tie.Need-array-read-if1 Inv-loop μ-loop
+unfolding levels
 array-read-if1 c = omega arith
 
 add-result : tie.Need-add-result Inv-loop μ-loop
+unfolding levels
 add-result c = omega arith
 
 returns : tie.Need-returns Inv-loop μ-loop
