@@ -14,7 +14,8 @@ use Rattle.field.specs.Found.{Found}
 use Rattle.field.specs.Demand.{AllObey, none, more, cards, Demand3, demand3}
 use Rattle.field.proofs.InStep.{byte-served}
 use Rattle.field.proofs.Stages.{stage-fresh}
-use Rattle.field.proofs.Demand3.{uids-fit, walk-of-a-field}
+use Rattle.field.proofs.Demand3.{walk-of-a-field}
+use Rattle.field.proofs.Suited.{uids-suit}
 use Rattle.row.specs.declared.Desk.{Desk}
 use Rattle.row.specs.Row.{Played, cardOf, cardsOf, noBytes, playedFor}
 use Rattle.walk.specs.Marks.{levels}
@@ -78,7 +79,7 @@ bench-is-a-field us h n =
     let tags : List Tag = tagsOf us in
     let obey : AllObey tags = tags-obey us h in
     ap (playedFor n) (bench-fresh us)
-    ∙ played-alike 256 tags n 0 (freshField us) obey (uids-fit 256 tags obey)
+    ∙ played-alike 256 tags n 0 (freshField us) obey (uids-suit 256 tags obey)
     (stage-fresh 256 tags (answering 256 tags) noUids noBytes obey (omega arith) (omega arith))
 
 -- ---- what demand 3 says of it
