@@ -18,7 +18,7 @@ use Rattle.walk.specs.declared.Send.the-variants.{Nothing, Mark, Request}
 use Rattle.walk.specs.Record.{isRunning}
 use Rattle.walk.specs.Hear.{judged, Hearing, hearing, Hears}
 use Rattle.walk.specs.Ask.{request, sent, refusal, Asking, asking, Asks}
-use Rattle.walk.proofs.Limits.{accepted-of-is-accepted}
+use Rattle.walk.proofs.Limits.{accepted-of-is-accepted, level-most}
 use Rattle.walk.proofs.Requests.{length-request-most}
 use Rattle.walk.proofs.AskWays.{served-of-refusal}
 use Rattle.board.specs.declared.in_place.Told.{Told}
@@ -63,13 +63,13 @@ refusal-of-number w room e = go (eqb (refusal w (length room)) 0) refl
         let same : asking w room .number ≡ refusal w (length room) = rw p in
         sym same ∙ e
 
-pub length-served-most : (w : Walk) (room left : List ℕ) (r : Asked) → Asks w (asking w room) r left → r .number ≡ 0 → lengthOf (r .send) ≤ 14
+pub length-served-most : (w : Walk) (room left : List ℕ) (r : Asked) → length (w .marks) ≤ 16 → Asks w (asking w room) r left → r .number ≡ 0 → lengthOf (r .send) ≤ 14
 unfolding asking
-length-served-most w room left r p e =
+length-served-most w room left r few p e =
     let none : refusal w (length room) ≡ 0 = refusal-of-number w room (sym (p .number) ∙ e) in
-    let level : w .level < 16 = accepted-of-is-accepted w (served-of-refusal w (length room) 0 (sym none) refl .accepted) .level in
+    let accepted = accepted-of-is-accepted w (served-of-refusal w (length room) 0 (sym none) refl .accepted) in
     let same : asking w room .send ≡ sent w = rw none in
-    rw (p .send, same) (length-sent-most w level)
+    rw (p .send, same) (length-sent-most w (level-most accepted few))
 
 pub asks-refused : (w : Walk) (a : Asking) (r : Asked) (z : ℤ) (room : List ℕ) → Asks w a r room → (r .number ≡ 0 → ⊥) → z ≡ refused (r .number) → AsksInPlace a z room
 unfolding askAnswer

@@ -4,17 +4,17 @@ use mathlib.Core.Path.{_≡_, refl, sym, _∙_}
 use Prim.Native.Nat.{ℕ, suc, _+_, _-_, _%_, _^_, _≤_, _<_}
 use native.Mathlib.Omega.{arith}
 use mathlib.Core.List.{List}
-use lib.ListN.{length, getD, set}
+use lib.ListN.{length, getD, set, length-set}
 use native.Mathlib.Nat.{zero-add, mod-lt, mod-eq-of-lt}
 use Rattle.tails.specs.Sum.{tot}
 use Rattle.tails.proofs.Digits.{power-positive, tail-tail, above-tail}
 use Rattle.walk.specs.declared.Walk.{Walk}
-use Rattle.walk.specs.Marks.{levels, withMark, withoutMark, lowest, deepestOf, deepest}
-use Rattle.walk.specs.Record.{openedMask, remade, noMarks, started, counted, marked, atNextSlot, openedAt, opened}
+use Rattle.walk.specs.Marks.{withMark, withoutMark, lowest, deepest}
+use Rattle.walk.specs.Record.{openedMask, remade, noMarks, startedOf, counted, marked, atNextSlot, openedAt, opened}
 use Rattle.walk.proofs.Levels.{lowest-is-slot}
 use Rattle.field.proofs.Waiting.{wait, wait-marked, wait-marked-slot, wait-opened, wait-opened-slot, wait-level, wait-none, wait-lowest}
 use Rattle.field.proofs.Waiting.{deepest-none, deepest-below, deepest-mark, deepest-last}
-use Rattle.field.proofs.Levels.{opened-mask}
+use Rattle.field.proofs.Levels.{no-mark, opened-mask}
 use Rattle.field.proofs.Steady.{Steady, mask-tail}
 use Rattle.field.proofs.WaitSums.{slotTail, waiting, waiting-none, waiting-more, waiting-mask}
 
@@ -30,10 +30,10 @@ unfolding toHear tot
 hear-none f j m = refl
 
 -- nothing waits at the start
-pub ahead-start : (f : ℕ → ℕ → ℕ) (family : ℕ) → ahead f (started family) 0 ≡ toHear f 0 0 0
-unfolding ahead started noMarks deepest deepestOf levels
-ahead-start f family =
-    let none : waiting f noMarks 0 ≡ 0 = waiting-none f noMarks 0 (deepest-none noMarks refl) in
+pub ahead-start : (f : ℕ → ℕ → ℕ) (levels family : ℕ) → ahead f (startedOf levels family) 0 ≡ toHear f 0 0 0
+unfolding ahead startedOf
+ahead-start f levels family =
+    let none : waiting f (noMarks levels) 0 ≡ 0 = waiting-none f (noMarks levels) 0 (λ j s. wait-none (noMarks levels) j s (no-mark levels j)) in
     rw none (zero-add (toHear f 0 0 0))
 
 -- slot t is heard
@@ -59,10 +59,10 @@ unfolding ahead marked remade
 ahead-marked f w t h g =
     let k : ℕ = w .level in
     let next : List ℕ = set (w .marks) k (withMark (getD (w .marks) k 0) (w .slot)) in
-    let inside : k < length (w .marks) = rw (g .marks-length) (g .accepted .level) in
+    let inside : k < length (w .marks) = g .accepted .level in
     let whole : w .mask % 16 ^ k ≡ w .mask = mod-eq-of-lt (mask-tail g) in
     let more : waiting f next (w .mask) ≡ f (suc k) (slotTail k (w .mask % 16 ^ k) (w .slot)) + waiting f (w .marks) (w .mask) =
-    waiting-more f (w .marks) next (w .mask) k (w .slot) (g .accepted .level) h (g .none-ahead (w .slot) (omega arith) h) (wait-marked (w .marks) k (w .slot) inside)
+    waiting-more f (w .marks) next (w .mask) k (w .slot) (length-set (w .marks) k (withMark (getD (w .marks) k 0) (w .slot))) inside h (g .none-ahead (w .slot) (omega arith) h) (wait-marked (w .marks) k (w .slot) inside)
     (λ s e. sym (wait-marked-slot (w .marks) k (w .slot) s inside e))
     (λ j s e. sym (wait-level (w .marks) k (withMark (getD (w .marks) k 0) (w .slot)) j s e)) in
     rw (more, whole) (omega arith)
@@ -75,18 +75,18 @@ ahead-opened f w j h g =
     let t : ℕ = lowest (getD (w .marks) j 0) in
     let next : List ℕ = set (w .marks) j (withoutMark (getD (w .marks) j 0) t) in
     let tail : openedMask (w .mask) j t ≡ slotTail j (w .mask % 16 ^ j) t = opened-mask (w .mask) j t in
-    let fits : j < 16 = deepest-below (w .marks) j g in
-    let inside : j < length (w .marks) = rw (h .marks-length) fits in
+    let inside : j < length (w .marks) = deepest-below (w .marks) j g in
+    let long : length next ≡ length (w .marks) = length-set (w .marks) j (withoutMark (getD (w .marks) j 0) t) in
     let levels : (i s : ℕ) → (i ≡ j → ⊥) → wait next i s ≡ wait (w .marks) i s = wait-level (w .marks) j (withoutMark (getD (w .marks) j 0) t) in
     let more : waiting f (w .marks) (w .mask) ≡ f (suc j) (slotTail j (w .mask % 16 ^ j) t) + waiting f next (w .mask) =
-    waiting-more f next (w .marks) (w .mask) j t fits (lowest-is-slot (getD (w .marks) j 0)) (wait-opened (w .marks) j t inside)
+    waiting-more f next (w .marks) (w .mask) j t (sym long) (rw long inside) (lowest-is-slot (getD (w .marks) j 0)) (wait-opened (w .marks) j t inside)
     (wait-lowest (w .marks) j (h .marks-fit j) (deepest-mark (w .marks) j g))
     (λ s e. wait-opened-slot (w .marks) j t s inside e) levels in
     let low : (i : ℕ) → i ≤ j → slotTail j (w .mask % 16 ^ j) t % 16 ^ i ≡ w .mask % 16 ^ i =
     λ i e. above-tail j (w .mask % 16 ^ j) t i (mod-lt (w .mask) (power-positive j)) e ∙ tail-tail (w .mask) i j e in
-    let none : (i s : ℕ) → j < i → i < 16 → wait (w .marks) i s ≡ 0 = λ i s a b. wait-none (w .marks) i s (deepest-last (w .marks) j g i a b) in
+    let none : (i s : ℕ) → j < i → wait (w .marks) i s ≡ 0 = λ i s a. wait-none (w .marks) i s (deepest-last (w .marks) i (omega arith)) in
     let same : waiting f next (w .mask) ≡ waiting f next (slotTail j (w .mask % 16 ^ j) t) =
-    waiting-mask f next (w .mask) (slotTail j (w .mask % 16 ^ j) t) j (λ i e. sym (low i e)) (λ i s a b. levels i s (λ e. absurd (omega arith)) ∙ none i s a b) in
+    waiting-mask f next (w .mask) (slotTail j (w .mask % 16 ^ j) t) j (λ i e. sym (low i e)) (λ i s a. levels i s (λ e. absurd (omega arith)) ∙ none i s a) in
     let heard : toHear f (w .level) (w .mask) 16 ≡ 0 = hear-none f (w .level) (w .mask) in
     let deeper : opened w j .level ≡ suc j = omega arith in
     rw (deeper, tail, heard, more, same) (omega arith)
@@ -94,4 +94,4 @@ ahead-opened f w j h g =
 -- nothing waits: nothing is ahead after slot 15
 pub ahead-none : (f : ℕ → ℕ → ℕ) (w : Walk) → deepest (w .marks) ≡ 0 → ahead f w 16 ≡ 0
 unfolding ahead toHear tot
-ahead-none f w h = rw (waiting-none f (w .marks) (w .mask) (λ j s g. deepest-none (w .marks) h j s g))
+ahead-none f w h = rw (waiting-none f (w .marks) (w .mask) (deepest-none (w .marks) h))

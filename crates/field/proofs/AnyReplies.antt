@@ -17,9 +17,10 @@ use Rattle.walk.specs.declared.Walk.{Walk}
 use Rattle.walk.specs.declared.Slot.{Slot}
 use Rattle.walk.specs.declared.Slot.the-variants.{Silent, Clashed, Clean}
 use Rattle.walk.specs.Marks.{deepest}
-use Rattle.walk.specs.Record.{remade, started, counted, marked, atNextSlot, openedAt, opened}
+use Rattle.walk.specs.Record.{mostRounds, remade, startedOf, counted, marked, atNextSlot, openedAt, opened}
 use Rattle.walk.specs.Hear.{endsAtOnce, noted, listNoted}
 use Rattle.walk.proofs.HearWays.{clean-goes-on}
+use Rattle.walk.proofs.LevelsStay.{levels-started, levels-noted, levels-opened}
 use Rattle.field.proofs.Levels.{opened-mask-below}
 use Rattle.field.proofs.Steady.{Steady, start-steady, noted-steady, next-steady, open-steady}
 use Rattle.field.proofs.WaitSums.{slotTail}
@@ -31,8 +32,9 @@ abbrev pub alone : ℕ → ℕ → ℕ → ℕ
 alone u = weigh (λ x. 1) (u ∷ [])
 
 -- a walk with its list, about to hear slot t of its round
-pub record Walks (w : Walk) (list : List ℕ) (t : ℕ) : Type 0 where
+pub record Walks (levels : ℕ) (w : Walk) (list : List ℕ) (t : ℕ) : Type 0 where
   pub steady : Steady w t
+  pub marks-length : length (w .marks) ≡ levels
   pub places-fit : 64 ≤ length list
   pub single : (u : ℕ) → times u (take (w .count) list) + ahead (alone u) w t ≤ 1
 
@@ -57,14 +59,15 @@ clean-room w list x h e =
     let few : w .count < 64 = clean-goes-on w {slot = Clean x} {uid = x} refl e in
     omega arith
 
-pub start-walks : (family : ℕ) (list : List ℕ) → 64 ≤ length list → Walks (started family) list 0
-unfolding started times tally
-start-walks family list h =
+pub start-walks : (levels family : ℕ) (list : List ℕ) → 1 ≤ levels → 64 ≤ length list → Walks levels (startedOf levels family) list 0
+unfolding startedOf times tally
+start-walks levels family list least h =
     record {
-      steady = start-steady family;
+      steady = start-steady levels family least;
+      marks-length = levels-started levels family;
       places-fit = h;
       single = λ u.
-          let whole : ahead (alone u) (started family) 0 ≡ 1 = ahead-start (alone u) family ∙ weigh-start (λ x. 1) (u ∷ []) in
+          let whole : ahead (alone u) (startedOf levels family) 0 ≡ 1 = ahead-start (alone u) levels family ∙ weigh-start (λ x. 1) (u ∷ []) in
           omega arith;
     }
 
@@ -86,7 +89,7 @@ noted-places w list Clashed h = h
 noted-places w list (Clean x) h = rw length-set h
 
 -- a UID that is listed was ahead in this slot
-clean-single : (w : Walk) (list : List ℕ) (x u : ℕ) → w .slot < 16 → Walks w list (w .slot) → w .count < length list → Fits w (Clean x)
+clean-single : {levels : ℕ} (w : Walk) (list : List ℕ) (x u : ℕ) → w .slot < 16 → Walks levels w list (w .slot) → w .count < length list → Fits w (Clean x)
     → times u (take (w .count + 1) (set list (w .count) x)) + ahead (alone u) (counted w) (suc (w .slot)) ≤ 1
 unfolding Fits times
 clean-single w list x u h g room f =
@@ -97,7 +100,7 @@ clean-single w list x u h g room f =
     let here : one (eqb x u) ≤ alone u (suc (w .level)) tail = fits-here x u (suc (w .level)) tail f in
     omega (arith, more, g .single u, heard, same, here)
 
-noted-single : (w : Walk) (list : List ℕ) (slot : Slot) → w .slot < 16 → Walks w list (w .slot) → endsAtOnce w slot ≡ 0 → Fits w slot
+noted-single : {levels : ℕ} (w : Walk) (list : List ℕ) (slot : Slot) → w .slot < 16 → Walks levels w list (w .slot) → endsAtOnce w slot ≡ 0 → Fits w slot
     → (u : ℕ) → times u (take (noted w slot .count) (listNoted w slot list)) + ahead (alone u) (noted w slot) (suc (w .slot)) ≤ 1
 unfolding noted listNoted marked counted remade
 noted-single w list Silent h g e f u = omega (arith, g .single u, ahead-hear (alone u) w (w .slot) h)
@@ -105,31 +108,35 @@ noted-single w list Clashed h g e f u =
     omega (arith, g .single u, ahead-hear (alone u) w (w .slot) h, ahead-marked (alone u) w (suc (w .slot)) h (g .steady))
 noted-single w list (Clean x) h g e f u = clean-single w list x u h g (clean-room w list x (g .places-fit) e) f
 
-pub note-walks : (w : Walk) (list : List ℕ) (slot : Slot) → w .slot < 16 → Walks w list (w .slot) → endsAtOnce w slot ≡ 0 → Fits w slot
-    → Walks (noted w slot) (listNoted w slot list) (suc (w .slot))
+pub note-walks : {levels : ℕ} (w : Walk) (list : List ℕ) (slot : Slot) → w .slot < 16 → Walks levels w list (w .slot) → endsAtOnce w slot ≡ 0
+    → Fits w slot → Walks levels (noted w slot) (listNoted w slot list) (suc (w .slot))
 note-walks w list slot h g e f =
     record {
       steady = noted-steady w slot h e (g .steady);
+      marks-length = levels-noted w slot ∙ g .marks-length;
       places-fit = noted-places w list slot (g .places-fit);
       single = noted-single w list slot h g e f;
     }
 
 -- ---- the next slot, the next round
 
-pub next-walks : (w : Walk) (list : List ℕ) (t : ℕ) → w .slot < 15 → Walks w list t → Walks (atNextSlot w) list t
+pub next-walks : {levels : ℕ} (w : Walk) (list : List ℕ) (t : ℕ) → w .slot < 15 → Walks levels w list t → Walks levels (atNextSlot w) list t
 unfolding atNextSlot remade
 next-walks w list t h g =
     record {
       steady = next-steady w t h (g .steady);
+      marks-length = g .marks-length;
       places-fit = g .places-fit;
       single = λ u. omega (arith, g .single u, ahead-next (alone u) w t);
     }
 
-pub open-walks : (w : Walk) (list : List ℕ) (j : ℕ) → Walks w list 16 → deepest (w .marks) ≡ suc j → w .rounds < 481 → Walks (opened w j) list 0
+pub open-walks : {levels : ℕ} (w : Walk) (list : List ℕ) (j : ℕ) → Walks levels w list 16 → deepest (w .marks) ≡ suc j
+    → w .rounds < mostRounds (length (w .marks)) → Walks levels (opened w j) list 0
 unfolding opened openedAt remade
 open-walks w list j g d r =
     record {
       steady = open-steady w j d r (g .steady);
+      marks-length = levels-opened w j ∙ g .marks-length;
       places-fit = g .places-fit;
       single = λ u.
           let turned = ahead-opened (alone u) w j (g .steady) d in

@@ -1,4 +1,4 @@
--- A walk from its start over any replies, true or false: accepted at every slot, no UID twice, ended after 16 × 481 slots.
+-- A walk from its start over any replies, true or false: accepted at every slot, no UID twice, ended after sixteen slots for each round it may have.
 -- By the weight of one UID and the count of slots. Assumes nothing.
 use mathlib.Core.Path.{_≡_, refl, sym, ap, subst, _∙_}
 use mathlib.Core.Bool.{Bool, true, false, cond, and-eq-true-iff, false≢true}
@@ -16,12 +16,13 @@ use Rattle.walk.specs.declared.Slot.{Slot}
 use Rattle.walk.specs.declared.Slot.the-variants.{Silent, Clashed, Clean}
 use Rattle.walk.specs.declared.Kind.{Kind}
 use Rattle.walk.specs.declared.Kind.the-variants as kind
-use Rattle.walk.specs.Record.{maskLength, started}
+use Rattle.walk.specs.Marks.{levels}
+use Rattle.walk.specs.Record.{mostRounds, mostSlots, maskLength, startedOf, started}
 use Rattle.walk.specs.Hear.{uidOf, isClean, judged}
 use Rattle.walk.proofs.HearWays.{walk-heard, ended-heard}
 use Rattle.field.specs.Field.{Arrival}
 use Rattle.field.specs.Found.{listed}
-use Rattle.field.specs.Replies.{Walked, heardIn, heardAll, Holds, anyReplies}
+use Rattle.field.specs.Replies.{Walked, heardIn, heardAll, HoldsIn, anyReplies}
 use Rattle.field.proofs.WaitSums.{slotTail}
 use Rattle.field.proofs.AnyReplies.{Walks, Fits, start-walks}
 use Rattle.field.proofs.Accepted.{walks-accepted}
@@ -61,7 +62,7 @@ judged-fits w kind.Silence bytes u h = not-clean (ap isCleanSlot h)
 judged-fits w kind.Clash bytes u h = not-clean (ap isCleanSlot h)
 judged-fits w kind.Bytes bytes u h = clean-of w bytes u (isClean w bytes) refl h
 
-slot-fits : (w : Walk) (t : ℕ) (list : List ℕ) (s : Slot) → Walks w list t → w .slot < 16
+slot-fits : {levels : ℕ} (w : Walk) (t : ℕ) (list : List ℕ) (s : Slot) → Walks levels w list t → w .slot < 16
     → ((u : ℕ) → s ≡ Clean u → fitsSlot u (maskLength (w .level)) (w .mask) (w .slot) ≡ true) → Fits w s
 unfolding Fits
 slot-fits w t list Silent g h f = tt
@@ -72,7 +73,8 @@ slot-fits w t list (Clean u) g h f =
 
 -- ---- slot after slot
 
-stage-slot : (n : ℕ) (p : Walked) (a : Arrival) → Stage n (p .walk) (p .list) → Stage (suc n) (heardIn p a .walk) (heardIn p a .list)
+stage-slot : {levels : ℕ} (n : ℕ) (p : Walked) (a : Arrival) → Stage levels n (p .walk) (p .list)
+    → Stage levels (suc n) (heardIn p a .walk) (heardIn p a .list)
 unfolding heardIn
 stage-slot n p a (hears g h e c) =
     let w : Walk = p .walk in
@@ -82,30 +84,36 @@ stage-slot n p a (hears g h e c) =
     (after-slot n w (p .list) s g h e c fits)
 stage-slot n p a (rests r e o) = rw (ended-heard (p .walk) (a .kind) (a .bytes) (p .list) r e) (rests r e o)
 
-stage-all : (arrivals : List Arrival) (n : ℕ) (p : Walked) → Stage n (p .walk) (p .list)
-    → Stage (n + length arrivals) (heardAll arrivals p .walk) (heardAll arrivals p .list)
+stage-all : {levels : ℕ} (arrivals : List Arrival) (n : ℕ) (p : Walked) → Stage levels n (p .walk) (p .list)
+    → Stage levels (n + length arrivals) (heardAll arrivals p .walk) (heardAll arrivals p .list)
 unfolding heardAll
-stage-all [] n p s = subst (λ (k : ℕ). Stage k (p .walk) (p .list)) (omega arith) s
-stage-all (a ∷ rest) n p s =
-    subst (λ (k : ℕ). Stage k (heardAll rest (heardIn p a) .walk) (heardAll rest (heardIn p a) .list)) (omega arith)
+stage-all {levels} [] n p s = subst (λ (k : ℕ). Stage levels k (p .walk) (p .list)) (omega arith) s
+stage-all {levels} (a ∷ rest) n p s =
+    subst (λ (k : ℕ). Stage levels k (heardAll rest (heardIn p a) .walk) (heardAll rest (heardIn p a) .list)) (omega arith)
     (stage-all rest (suc n) (heardIn p a) (stage-slot n p a s))
 
-holds-of : (n : ℕ) (p : Walked) → Stage n (p .walk) (p .list) → Holds n p
-unfolding listed
-holds-of n p (hears g h e c) =
+holds-of : (levels n : ℕ) (p : Walked) → Stage levels n (p .walk) (p .list) → HoldsIn (mostSlots levels) n p
+unfolding listed mostSlots
+holds-of levels n p (hears g h e c) =
     record {
       accepted = walks-accepted (p .walk) (p .list) (p .walk .slot) h g;
       once = once (p .walk) (p .list) (p .walk .slot) g;
       counted = λ r. c;
-      ends = λ m. let most : p .walk .rounds ≤ 481 = g .steady .accepted .last-round in absurd (omega (arith, most, c, h, m));
+      ends = λ m. let most : p .walk .rounds ≤ mostRounds levels = rw (g .marks-length) at (g .steady .accepted .last-round) in absurd (omega (arith, most, c, h, m));
     }
-holds-of n p (rests r e o) = record { accepted = r; once = o; counted = λ r. absurd (false≢true (sym e ∙ r)); ends = λ m. e }
+holds-of levels n p (rests r e o) = record { accepted = r; once = o; counted = λ r. absurd (false≢true (sym e ∙ r)); ends = λ m. e }
+
+-- a walk of any number of levels
+pub walk-of-any-replies-in : (levels family : ℕ) (list : List ℕ) (arrivals : List Arrival) → 1 ≤ levels → 64 ≤ length list
+    → HoldsIn (mostSlots levels) (length arrivals) (heardAll arrivals (record { walk = startedOf levels family; list = list }))
+unfolding startedOf
+walk-of-any-replies-in levels family list arrivals least h =
+    let fresh : Walked = record { walk = startedOf levels family; list = list } in
+    let stage : Stage levels (0 + length arrivals) (heardAll arrivals fresh .walk) (heardAll arrivals fresh .list) =
+    stage-all arrivals 0 fresh (hears (start-walks levels family list least h) (omega arith) refl (omega arith)) in
+    holds-of levels (length arrivals) (heardAll arrivals fresh)
+    (subst (λ (n : ℕ). Stage levels n (heardAll arrivals fresh .walk) (heardAll arrivals fresh .list)) (zero-add (length arrivals)) stage)
 
 pub walk-of-any-replies : anyReplies
-unfolding anyReplies started
-walk-of-any-replies family list arrivals h =
-    let fresh : Walked = record { walk = started family; list = list } in
-    let stage : Stage (0 + length arrivals) (heardAll arrivals fresh .walk) (heardAll arrivals fresh .list) =
-    stage-all arrivals 0 fresh (hears (start-walks family list h) (omega arith) refl (omega arith)) in
-    holds-of (length arrivals) (heardAll arrivals fresh)
-    (subst (λ (n : ℕ). Stage n (heardAll arrivals fresh .walk) (heardAll arrivals fresh .list)) (zero-add (length arrivals)) stage)
+unfolding anyReplies started levels mostSlots mostRounds
+walk-of-any-replies family list arrivals h = walk-of-any-replies-in levels family list arrivals (omega arith) h

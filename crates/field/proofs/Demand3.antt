@@ -1,41 +1,31 @@
 -- Demand 3. By the verdict of a walk of a fixed field, and the measure that ends it.
 -- Assumes nothing.
 use mathlib.Core.Path.{_≡_, refl, ap₂, subst}
-use mathlib.Core.Bool.{Bool, true, false, cond}
-use Prim.Native.Nat.{ℕ, zero, suc, _*_, _/_, _^_, _≤_, _<_}
+use mathlib.Core.Bool.{false}
+use Prim.Native.Nat.{ℕ, _+_, _-_, _*_, _/_, _≤_}
 use native.Mathlib.Nat.{zero-add}
 use native.Mathlib.Omega.{arith}
 use mathlib.Core.List.{List, [], _∷_}
 use lib.Dec.{eqb}
-use lib.ListN.{length, getD}
+use lib.ListN.{length}
 use Rattle.card.specs.declared.Card.{Card}
 use Rattle.tails.specs.Sum.{one, times}
-use Rattle.tails.specs.Tails.{sharedTails}
+use Rattle.tails.specs.Tails.{sharedTailsTo, sharedTails}
+use Rattle.tails.proofs.Apart.{ToldApart}
 use Rattle.tails.proofs.Bounds.{shared-tails-half}
 use Rattle.walk.specs.declared.Walk.{Walk}
-use Rattle.walk.specs.Record.{isRunning}
+use Rattle.walk.specs.Marks.{levels}
+use Rattle.walk.specs.Record.{mostRounds, mostSlots, complete, isRunning, started}
 use Rattle.play.specs.Life.{Tag}
-use Rattle.field.specs.Field.{answers, answering}
-use Rattle.field.specs.Played.{Play, playedFor, fresh}
-use Rattle.field.specs.Found.{Different, listed, Found}
-use Rattle.field.specs.Demand.{AllObey, none, more, cardLeft, cardsLeft, cards, memories, lockBytes, Demand3, demand3}
-use Rattle.field.proofs.Next.{Verdict, completes, twin, fills}
+use Rattle.field.specs.Field.{answering}
+use Rattle.field.specs.Played.{Play, playedFor, freshOf, fresh}
+use Rattle.field.specs.Found.{Different, listed, FoundIn, Found}
+use Rattle.field.specs.Demand.{AllObey, cardLeft, cardsLeft, cards, memories, lockBytes, Demand3In, demand3}
+use Rattle.field.proofs.Next.{Suits, Verdict, completes, twin, fills}
+use Rattle.field.proofs.Suited.{uids-suit}
 use Rattle.field.proofs.InTime.{AtSlot, Both, inStep}
 use Rattle.field.proofs.InTime as row
-use Rattle.field.proofs.Stages.{Stage, hears, rests, stage-fresh, stage-for}
-
--- ---- the UIDs of cards that obey have sixteen digits
-
-pub uids-fit : (family : ℕ) (tags : List Tag) → AllObey tags → (i : ℕ) → getD (answering family tags) i 0 < 16 ^ 16
-unfolding answering
-uids-fit family [] none i = omega arith
-uids-fit family (t ∷ ts) (more obeys rest) i = go (answers family (t .card)) i (λ k. uids-fit family ts rest k)
-  where
-    go : (b : Bool) (i : ℕ) → ((k : ℕ) → getD (answering family ts) k 0 < 16 ^ 16)
-        → getD (cond b (t .card .uid ∷ answering family ts) (answering family ts)) i 0 < 16 ^ 16
-    go true zero later = obeys .uid-fits
-    go true (suc i) later = later i
-    go false i later = later i
+use Rattle.field.proofs.Stages.{Stage, hears, rests, stage-start, stage-for}
 
 -- ---- what becomes of the cards
 
@@ -58,9 +48,10 @@ locks-of family level mask s (t₀ ∷ ts₀) (t ∷ ts) (row.more h b) =
 
 -- ---- what the verdict means
 
-verdict-found : (us : List ℕ) (w : Walk) (list : List ℕ) → isRunning w ≡ false → Verdict us w list → Found us w list
+verdict-found : (levels : ℕ) (us : List ℕ) (w : Walk) (list : List ℕ) → isRunning w ≡ false → Verdict levels us w list
+    → FoundIn (levels - 1) us w list
 unfolding Different listed times
-verdict-found us w list end (completes e few number same once rounds) =
+verdict-found levels us w list end (completes e few number same once rounds) =
     let different : (u : ℕ) → times u us ≤ 1 = λ u. rw (← same (λ x. one (eqb x u))) (once u) in
     record {
       ends = end;
@@ -70,14 +61,14 @@ verdict-found us w list end (completes e few number same once rounds) =
       each-once = λ c u. same (λ x. one (eqb x u));
       count = λ c. number;
       rounds = λ c. rounds;
-      rounds-most = λ c. let half : sharedTails us ≤ 15 * (length us / 2) = shared-tails-half us in omega arith;
+      rounds-most = λ c. let half : sharedTailsTo (levels - 1) us ≤ (levels - 1) * (length us / 2) = shared-tails-half us (levels - 1) in omega (arith, half, rounds);
       alike = λ n d. absurd (d different);
       many = λ n d. absurd (omega arith);
       twins-alike = λ c. absurd (omega arith);
       full-many = λ c. absurd (omega arith);
       no-overrun = omega arith;
     }
-verdict-found us w list end (twin e u two) =
+verdict-found levels us w list end (twin e u two) =
     record {
       ends = end;
       few = λ c. absurd (omega arith);
@@ -93,7 +84,7 @@ verdict-found us w list end (twin e u two) =
       full-many = λ c. absurd (omega arith);
       no-overrun = omega arith;
     }
-verdict-found us w list end (fills e many) =
+verdict-found levels us w list end (fills e many) =
     record {
       ends = end;
       few = λ c. absurd (omega arith);
@@ -110,29 +101,53 @@ verdict-found us w list end (fills e many) =
       no-overrun = omega arith;
     }
 
--- a walk can't hear for more than 16 × 481 slots
-ends : (family : ℕ) (tags : List Tag) (us : List ℕ) (n : ℕ) (p : Play) → 16 * 481 ≤ n → Stage family tags us n p → Demand3 family tags us p
-ends family tags us n p h (hears g s e f room count b) =
-    let most : p .walk .rounds ≤ 481 = g .walks .steady .accepted .last-round in
+-- demand 3's own words: "exactly one more than the number of tails of 1 to 15 digits"
+pub found-rounds : (us : List ℕ) (w : Walk) (list : List ℕ) → Found us w list → w .ending ≡ complete → w .rounds ≡ 1 + sharedTails us
+unfolding sharedTails
+found-rounds us w list found e = found .rounds e
+
+-- a walk can't hear for more slots than its rounds have
+ends : (levels family : ℕ) (tags : List Tag) (us : List ℕ) (n : ℕ) (p : Play) → mostSlots levels ≤ n → Stage levels family tags us n p
+    → Demand3In (levels - 1) family tags us p
+unfolding mostSlots
+ends levels family tags us n p h (hears g s e f room count b) =
+    let most : p .walk .rounds ≤ mostRounds levels = rw (g .walks .marks-length) at (g .walks .steady .accepted .last-round) in
     absurd (omega (arith, most, count, s, h))
-ends family tags us n p h (rests a r v b) =
+ends levels family tags us n p h (rests a r v b) =
     record {
-      found = verdict-found us (p .walk) (p .list) r v;
+      found = verdict-found levels us (p .walk) (p .list) r v;
       cards-left = cards-of family (p .walk) tags (p .tags) b;
       memories-left = memories-of family (p .walk .level) (p .walk .mask) (p .walk .slot) tags (p .tags) b;
       locks-left = locks-of family (p .walk .level) (p .walk .mask) (p .walk .slot) tags (p .tags) b;
     }
 
--- after n slots of a fresh walk
+-- after n slots
+stage-after-in : (levels family : ℕ) (tags : List Tag) (list room : List ℕ) → 1 ≤ levels → Suits levels (answering family tags) → AllObey tags
+    → 64 ≤ length list → 14 ≤ length room → (n : ℕ)
+    → Stage levels family tags (answering family tags) n (playedFor n (freshOf levels family list room tags))
+stage-after-in levels family tags list room least suits obey places fits n =
+    let us : List ℕ = answering family tags in
+    subst (λ (k : ℕ). Stage levels family tags us k (playedFor n (freshOf levels family list room tags))) (zero-add n)
+    (stage-for family tags n 0 (freshOf levels family list room tags) obey suits
+    (stage-start levels family tags us list room least obey places fits))
+
+-- of a fresh walk
 pub stage-after : (family : ℕ) (tags : List Tag) (list room : List ℕ) → AllObey tags → 64 ≤ length list → 14 ≤ length room → (n : ℕ)
-    → Stage family tags (answering family tags) n (playedFor n (fresh family list room tags))
+    → Stage levels family tags (answering family tags) n (playedFor n (fresh family list room tags))
+unfolding fresh freshOf started levels
 stage-after family tags list room obey places fits n =
-    subst (λ (k : ℕ). Stage family tags (answering family tags) k (playedFor n (fresh family list room tags))) (zero-add n)
-    (stage-for family tags n 0 (fresh family list room tags) obey (uids-fit family tags obey)
-    (stage-fresh family tags (answering family tags) list room obey places fits))
+    stage-after-in levels family tags list room (omega arith) (uids-suit family tags obey) obey places fits n
+
+-- a walk of up to sixteen levels, where so many last digits tell the UIDs apart that answer
+pub walk-of-a-field-in : (levels family : ℕ) (tags : List Tag) (list room : List ℕ) → 1 ≤ levels → levels ≤ 16
+    → ToldApart levels (answering family tags) → AllObey tags → 64 ≤ length list → 14 ≤ length room
+    → Demand3In (levels - 1) family tags (answering family tags) (playedFor (mostSlots levels) (freshOf levels family list room tags))
+walk-of-a-field-in levels family tags list room least most apart obey places fits =
+    let suits : Suits levels (answering family tags) = record { most = most; apart = apart } in
+    ends levels family tags (answering family tags) (mostSlots levels) (playedFor (mostSlots levels) (freshOf levels family list room tags)) (omega arith)
+    (stage-after-in levels family tags list room least suits obey places fits (mostSlots levels))
 
 pub walk-of-a-field : demand3
-unfolding demand3
+unfolding demand3 fresh freshOf started levels mostSlots mostRounds
 walk-of-a-field family tags list room obey places fits =
-    ends family tags (answering family tags) (16 * 481) (playedFor (16 * 481) (fresh family list room tags)) (omega arith)
-    (stage-after family tags list room obey places fits (16 * 481))
+    walk-of-a-field-in levels family tags list room (omega arith) (omega arith) (uids-suit family tags obey .apart) obey places fits

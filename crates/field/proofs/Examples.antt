@@ -9,7 +9,7 @@ use lib.ListN.{length, take}
 use Rattle.tails.specs.Tails.{ending}
 use Rattle.walk.specs.declared.Walk.{Walk}
 use Rattle.walk.specs.Marks.{levels, waits, withMark, withoutMark, lowestFrom, lowest, deepestOf, deepest}
-use Rattle.walk.specs.Record.{places, mostRounds, maskLength, isRunning, remade, ended, counted, marked, atNextSlot, openedMask, openedAt, opened, noMarks, started}
+use Rattle.walk.specs.Record.{places, levelsOf, mostRounds, maskLength, isRunning, remade, ended, counted, marked, atNextSlot, openedMask, openedAt, opened, noMarks, startedOf, started}
 use Rattle.walk.specs.Hear.{endsAtOnce, noted, listNoted, turned, passed, walkAfter, listAfter}
 use Rattle.play.specs.Life.{Tag}
 use Rattle.field.specs.Field.{answering}
@@ -19,13 +19,13 @@ use Rattle.field.specs.Demand.{AllObey}
 use Rattle.field.specs.Examples.{three, threeEnd, FieldOfThree}
 use Rattle.field.proofs.Called.{called, slotOf}
 use Rattle.field.proofs.Stages.{stage-fresh}
-use Rattle.field.proofs.Demand3.{uids-fit}
+use Rattle.field.proofs.Suited.{uids-suit}
 use Rattle.field.proofs.Stood.{Stand, stood, stoodFor, stood-more, stood-ended, standOf, played-stood}
 
 three-stood : (family a b c : ℕ) (list : List ℕ)
     → stoodFor three 32 (record { walk = started family; list = a ∷ b ∷ c ∷ list })
     ≡ record { walk = threeEnd family; list = 0xe004010000000005 ∷ 0xe004010000000011 ∷ 0xe004010000000021 ∷ list }
-unfolding stoodFor stood isRunning started noMarks walkAfter listAfter endsAtOnce noted listNoted passed turned ended counted marked atNextSlot opened openedAt remade openedMask maskLength withMark withoutMark waits lowest lowestFrom deepest deepestOf levels places mostRounds called ending slotOf
+unfolding stoodFor stood isRunning started startedOf noMarks walkAfter listAfter endsAtOnce noted listNoted passed turned ended counted marked atNextSlot opened openedAt remade openedMask maskLength withMark withoutMark waits lowest lowestFrom deepest deepestOf levels levelsOf places mostRounds called ending slotOf
 three-stood family a b c list = refl
 
 -- the list has the three at its start
@@ -52,7 +52,7 @@ stands : (family : ℕ) (tags : List Tag) (list room : List ℕ) → AllObey tag
 unfolding fresh
 stands family tags list room obey places fits same =
     let s : Stand = record { walk = started family; list = list } in
-    played-stood family tags (16 * 481) 0 (fresh family list room tags) obey (uids-fit family tags obey)
+    played-stood family tags (16 * 481) 0 (fresh family list room tags) obey (uids-suit family tags obey)
     (stage-fresh family tags (answering family tags) list room obey places fits)
     ∙ ap (λ (us : List ℕ). stoodFor us (32 + 7664) s) same
     ∙ stood-more three 32 7664 s

@@ -2,17 +2,18 @@
 -- By the weights of UIDs and of tails, which every slot keeps. Assumes nothing.
 use mathlib.Core.Path.{_≡_, refl, ap, _∙_}
 use mathlib.Core.Bool.{Bool, true}
-use Prim.Native.Nat.{ℕ, suc, _+_, _≤_, _<_}
+use Prim.Native.Nat.{ℕ, suc, _+_, _-_, _≤_, _<_}
 use native.Mathlib.Omega.{arith}
 use mathlib.Core.List.{List, [], _∷_}
 use borrow.Author.Tests.{le-leb}
 use lib.ListN.{length, take}
 use Rattle.tails.specs.Sum.{one, tally}
-use Rattle.tails.specs.Tails.{isShared, sharedTails}
+use Rattle.tails.specs.Tails.{isShared, sharedTailsTo}
+use Rattle.tails.proofs.Apart.{ending-head}
 use Rattle.walk.specs.declared.Walk.{Walk}
 use Rattle.walk.specs.declared.Slot.the-variants.{Silent, Clashed, Clean}
 use Rattle.walk.specs.Marks.{deepest}
-use Rattle.walk.specs.Record.{remade, started, counted, marked, atNextSlot, openedAt, opened}
+use Rattle.walk.specs.Record.{mostRounds, remade, startedOf, counted, marked, atNextSlot, openedAt, opened}
 use Rattle.walk.specs.Hear.{endsAtOnce, noted, listNoted}
 use Rattle.field.proofs.Levels.{opened-mask-below}
 use Rattle.field.proofs.Steady.{Steady}
@@ -22,13 +23,13 @@ use Rattle.field.proofs.Weights.{weigh, weigh-parts, weigh-start, below
 use Rattle.field.proofs.Shared.{Crowded, start-crowded, marked-crowded, opened-shared, opened-crowded}
 use Rattle.field.proofs.AnyReplies.{Walks, Fits, listed-more, clean-room, start-walks, note-walks, next-walks, open-walks}
 use Rattle.field.proofs.Called.{called, slotOf}
-use Rattle.field.proofs.CalledWeights.{ending-head, slot-weight, slot-shared, slot-alone}
+use Rattle.field.proofs.CalledWeights.{slot-weight, slot-shared, slot-alone}
 
--- us the UIDs of the field, about to hear slot t
-pub record Fixed (us : List ℕ) (w : Walk) (list : List ℕ) (t : ℕ) : Type 0 where
-  pub walks : Walks w list t
+-- a walk of so many levels, us the UIDs of the field, about to hear slot t
+pub record Fixed (levels : ℕ) (us : List ℕ) (w : Walk) (list : List ℕ) (t : ℕ) : Type 0 where
+  pub walks : Walks levels w list t
   pub weighed : (v : ℕ → ℕ) → tally v (take (w .count) list) + ahead (weigh v us) w t ≡ tally v us
-  pub tails : w .rounds + ahead (belowAt us) w t ≡ 1 + sharedTails us
+  pub tails : w .rounds + ahead (belowAt levels us) w t ≡ 1 + sharedTailsTo (levels - 1) us
   pub crowded : Crowded us (w .marks) (w .mask)
 
 one-of : {b : Bool} → b ≡ true → one b ≡ 1
@@ -39,24 +40,25 @@ weighed-none : (v : ℕ → ℕ) {a b : ℕ} → a ≡ b → tally v [] + a ≡ 
 unfolding tally
 weighed-none v e = omega (arith, e)
 
-pub start-fixed : (us : List ℕ) (family : ℕ) (list : List ℕ) → 64 ≤ length list → Fixed us (started family) list 0
-unfolding started
-start-fixed us family list h =
+pub start-fixed : (levels : ℕ) (us : List ℕ) (family : ℕ) (list : List ℕ) → 1 ≤ levels → 64 ≤ length list
+    → Fixed levels us (startedOf levels family) list 0
+unfolding startedOf
+start-fixed levels us family list least h =
     record {
-      walks = start-walks family list h;
+      walks = start-walks levels family list least h;
       weighed = λ v. start-weighed v;
-      tails = ap (λ (n : ℕ). 1 + n) (ahead-start (belowAt us) family ∙ below-start us);
-      crowded = start-crowded us 0;
+      tails = ap (λ (n : ℕ). 1 + n) (ahead-start (belowAt levels us) levels family ∙ below-start levels us);
+      crowded = start-crowded us levels 0;
     }
   where
-    start-weighed : (v : ℕ → ℕ) → tally v (take (started family .count) list) + ahead (weigh v us) (started family) 0 ≡ tally v us
-    start-weighed v = weighed-none v (ahead-start (weigh v us) family ∙ weigh-start v us)
+    start-weighed : (v : ℕ → ℕ) → tally v (take (startedOf levels family .count) list) + ahead (weigh v us) (startedOf levels family) 0 ≡ tally v us
+    start-weighed v = weighed-none v (ahead-start (weigh v us) levels family ∙ weigh-start v us)
 
 -- a slot that does not end the walk, by those it calls
-note-of : (us xs : List ℕ) (w : Walk) (list : List ℕ) → called us w ≡ xs → w .slot < 16 → Fixed us w list (w .slot) → endsAtOnce w (slotOf xs) ≡ 0
-    → Fixed us (noted w (slotOf xs)) (listNoted w (slotOf xs) list) (suc (w .slot))
+note-of : {levels : ℕ} (us xs : List ℕ) (w : Walk) (list : List ℕ) → called us w ≡ xs → w .slot < 16 → Fixed levels us w list (w .slot)
+    → endsAtOnce w (slotOf xs) ≡ 0 → Fixed levels us (noted w (slotOf xs)) (listNoted w (slotOf xs) list) (suc (w .slot))
 unfolding slotOf noted listNoted counted marked remade Fits tally called
-note-of us [] w list c h g e =
+note-of {levels} us [] w list c h g e =
     record {
       walks = note-walks w list Silent h (g .walks) e tt;
       weighed = λ v.
@@ -64,12 +66,12 @@ note-of us [] w list c h g e =
           let weight : weigh v us (suc (w .level)) (slotTail (w .level) (w .mask) (w .slot)) ≡ 0 = slot-weight v us [] w c in
           omega (arith, heard, weight, g .weighed v);
       tails =
-          let heard = ahead-hear (belowAt us) w (w .slot) h in
-          let weight = slot-alone us [] w h (g .walks .steady) c refl in
+          let heard = ahead-hear (belowAt levels us) w (w .slot) h in
+          let weight = slot-alone levels us [] w h (g .walks .steady) c refl in
           omega (arith, heard, weight, g .tails);
       crowded = g .crowded;
     }
-note-of us (x ∷ []) w list c h g e =
+note-of {levels} us (x ∷ []) w list c h g e =
     record {
       walks = note-walks w list (Clean x) h (g .walks) e (ending-head (suc (w .level)) (slotTail (w .level) (w .mask) (w .slot)) x us [] c);
       weighed = λ v.
@@ -79,13 +81,13 @@ note-of us (x ∷ []) w list c h g e =
           let same = ahead-counted (weigh v us) w (suc (w .slot)) in
           omega (arith, heard, weight, more, same, g .weighed v);
       tails =
-          let heard = ahead-hear (belowAt us) w (w .slot) h in
-          let weight = slot-alone us (x ∷ []) w h (g .walks .steady) c refl in
-          let same = ahead-counted (belowAt us) w (suc (w .slot)) in
+          let heard = ahead-hear (belowAt levels us) w (w .slot) h in
+          let weight = slot-alone levels us (x ∷ []) w h (g .walks .steady) c refl in
+          let same = ahead-counted (belowAt levels us) w (suc (w .slot)) in
           omega (arith, heard, weight, same, g .tails);
       crowded = g .crowded;
     }
-note-of us (x ∷ y ∷ xs) w list c h g e =
+note-of {levels} us (x ∷ y ∷ xs) w list c h g e =
     record {
       walks = note-walks w list Clashed h (g .walks) e tt;
       weighed = λ v.
@@ -93,30 +95,31 @@ note-of us (x ∷ y ∷ xs) w list c h g e =
           let again = ahead-marked (weigh v us) w (suc (w .slot)) h (g .walks .steady) in
           omega (arith, heard, again, g .weighed v);
       tails =
-          let heard = ahead-hear (belowAt us) w (w .slot) h in
-          let again = ahead-marked (belowAt us) w (suc (w .slot)) h (g .walks .steady) in
+          let heard = ahead-hear (belowAt levels us) w (w .slot) h in
+          let again = ahead-marked (belowAt levels us) w (suc (w .slot)) h (g .walks .steady) in
           omega (arith, heard, again, g .tails);
       crowded = marked-crowded us w h (g .walks .steady) (g .crowded) (slot-shared us (x ∷ y ∷ xs) w c ∙ le-leb 2 (suc (suc (length xs))) (omega arith));
     }
 
-pub note-fixed : (us : List ℕ) (w : Walk) (list : List ℕ) → w .slot < 16 → Fixed us w list (w .slot) → endsAtOnce w (slotOf (called us w)) ≡ 0
-    → Fixed us (noted w (slotOf (called us w))) (listNoted w (slotOf (called us w)) list) (suc (w .slot))
+pub note-fixed : {levels : ℕ} (us : List ℕ) (w : Walk) (list : List ℕ) → w .slot < 16 → Fixed levels us w list (w .slot)
+    → endsAtOnce w (slotOf (called us w)) ≡ 0 → Fixed levels us (noted w (slotOf (called us w))) (listNoted w (slotOf (called us w)) list) (suc (w .slot))
 note-fixed us w list h g e = note-of us (called us w) w list refl h g e
 
-pub next-fixed : (us : List ℕ) (w : Walk) (list : List ℕ) (t : ℕ) → w .slot < 15 → Fixed us w list t → Fixed us (atNextSlot w) list t
+pub next-fixed : {levels : ℕ} (us : List ℕ) (w : Walk) (list : List ℕ) (t : ℕ) → w .slot < 15 → Fixed levels us w list t
+    → Fixed levels us (atNextSlot w) list t
 unfolding atNextSlot remade
-next-fixed us w list t h g =
+next-fixed {levels} us w list t h g =
     record {
       walks = next-walks w list t h (g .walks);
       weighed = λ v. let same = ahead-next (weigh v us) w t in omega (arith, same, g .weighed v);
-      tails = let same = ahead-next (belowAt us) w t in omega (arith, same, g .tails);
+      tails = let same = ahead-next (belowAt levels us) w t in omega (arith, same, g .tails);
       crowded = g .crowded;
     }
 
-pub open-fixed : (us : List ℕ) (w : Walk) (list : List ℕ) (j : ℕ) → Fixed us w list 16 → deepest (w .marks) ≡ suc j → w .rounds < 481
-    → Fixed us (opened w j) list 0
+pub open-fixed : {levels : ℕ} (us : List ℕ) (w : Walk) (list : List ℕ) (j : ℕ) → Fixed levels us w list 16 → deepest (w .marks) ≡ suc j
+    → w .rounds < mostRounds (length (w .marks)) → Fixed levels us (opened w j) list 0
 unfolding opened openedAt remade
-open-fixed us w list j g d r =
+open-fixed {levels} us w list j g d r =
     let steady : Steady w 16 = g .walks .steady in
     record {
       walks = open-walks w list j (g .walks) d r;
@@ -125,8 +128,8 @@ open-fixed us w list j g d r =
           let parts = weigh-parts v us (suc j) (opened w j .mask) (opened-mask-below w j) in
           omega (arith, turned, parts, g .weighed v);
       tails =
-          let turned = ahead-opened (belowAt us) w j steady d in
-          let parts = below-parts us (suc j) (opened w j .mask) (omega arith) in
+          let turned = ahead-opened (belowAt levels us) w j steady d in
+          let parts = below-parts levels us (suc j) (opened w j .mask) (omega (arith, steady .accepted .last-level, g .walks .marks-length)) in
           let shared : one (isShared us (suc j) (opened w j .mask)) ≡ 1 = one-of (opened-shared us w j steady d (g .crowded)) in
           omega (arith, turned, parts, shared, g .tails);
       crowded = opened-crowded us w j steady d (g .crowded);

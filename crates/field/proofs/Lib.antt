@@ -15,6 +15,7 @@ pub mod Shared
 pub mod CalledWeights
 pub mod FixedField
 pub mod Next
+pub mod Suited
 pub mod Steps
 pub mod Request
 pub mod Requested

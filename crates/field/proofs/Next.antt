@@ -1,11 +1,12 @@
 -- What a slot leaves of a walk of a fixed field: it moves on, opens a round, or stops with a verdict on the UIDs. Definitions that the steps
 -- and stages share, and what a slot that is noted keeps. Assumes nothing.
 use mathlib.Core.Path.{_≡_, refl}
-use Prim.Native.Nat.{ℕ, suc, _+_, _≤_, _<_}
+use Prim.Native.Nat.{ℕ, suc, _+_, _-_, _≤_, _<_}
 use mathlib.Core.List.{List}
 use lib.ListN.{length, take}
 use Rattle.tails.specs.Sum.{tally, times}
-use Rattle.tails.specs.Tails.{sharedTails}
+use Rattle.tails.specs.Tails.{sharedTailsTo}
+use Rattle.tails.proofs.Apart.{ToldApart}
 use Rattle.walk.specs.declared.Walk.{Walk}
 use Rattle.walk.specs.declared.Slot.{Slot}
 use Rattle.walk.specs.declared.Slot.the-variants.{Silent, Clashed, Clean}
@@ -13,12 +14,17 @@ use Rattle.walk.specs.Record.{complete, twins, full, remade, ended, counted, ma
 use Rattle.walk.specs.Hear.{noted}
 use Rattle.field.proofs.FixedField.{Fixed}
 
--- what an ended walk says of the UIDs us
-pub data Verdict (us : List ℕ) (w : Walk) (list : List ℕ) : Type 0 where
+-- a walk of so many levels suits the UIDs us: a card takes masks of up to 60 bits, and the last digits tell the UIDs apart
+pub record Suits (levels : ℕ) (us : List ℕ) : Type 0 where
+  pub most : levels ≤ 16
+  pub apart : ToldApart levels us
+
+-- what an ended walk of so many levels says of the UIDs us
+pub data Verdict (levels : ℕ) (us : List ℕ) (w : Walk) (list : List ℕ) : Type 0 where
   completes : w .ending ≡ complete → w .count ≤ 64 → w .count ≡ length us → ((v : ℕ → ℕ) → tally v (take (w .count) list) ≡ tally v us)
-      → ((u : ℕ) → times u (take (w .count) list) ≤ 1) → w .rounds ≡ 1 + sharedTails us → Verdict us w list
-  twin : w .ending ≡ twins → (u : ℕ) → 2 ≤ times u us → Verdict us w list
-  fills : w .ending ≡ full → 64 < length us → Verdict us w list
+      → ((u : ℕ) → times u (take (w .count) list) ≤ 1) → w .rounds ≡ 1 + sharedTailsTo (levels - 1) us → Verdict levels us w list
+  twin : w .ending ≡ twins → (u : ℕ) → 2 ≤ times u us → Verdict levels us w list
+  fills : w .ending ≡ full → 64 < length us → Verdict levels us w list
 
 -- level, mask, slot, family and rounds stay
 pub record Kept (w w' : Walk) : Type 0 where
@@ -29,12 +35,12 @@ pub record Kept (w w' : Walk) : Type 0 where
   pub rounds : w' .rounds ≡ w .rounds
 
 -- the walk w' that a slot leaves of w
-pub data Next (us : List ℕ) (w w' : Walk) (list' : List ℕ) : Type 0 where
-  moves : Fixed us w' list' (suc (w .slot)) → w .slot < 15 → w' .level ≡ w .level → w' .mask ≡ w .mask → w' .slot ≡ suc (w .slot)
-      → w' .family ≡ w .family → w' .ending ≡ w .ending → w' .rounds ≡ w .rounds → Next us w w' list'
-  opens : Fixed us w' list' 0 → w .slot ≡ 15 → w' .slot ≡ 0 → w' .family ≡ w .family → w' .ending ≡ w .ending → w' .rounds ≡ suc (w .rounds)
-      → Next us w w' list'
-  stops : {x : Walk} {t : ℕ} → Fixed us x list' t → Kept w x → (e : ℕ) → w' ≡ ended (suc e) x → Verdict us w' list' → Next us w w' list'
+pub data Next (levels : ℕ) (us : List ℕ) (w w' : Walk) (list' : List ℕ) : Type 0 where
+  moves : Fixed levels us w' list' (suc (w .slot)) → w .slot < 15 → w' .level ≡ w .level → w' .mask ≡ w .mask → w' .slot ≡ suc (w .slot)
+      → w' .family ≡ w .family → w' .ending ≡ w .ending → w' .rounds ≡ w .rounds → Next levels us w w' list'
+  opens : Fixed levels us w' list' 0 → w .slot ≡ 15 → w' .slot ≡ 0 → w' .family ≡ w .family → w' .ending ≡ w .ending → w' .rounds ≡ suc (w .rounds)
+      → Next levels us w w' list'
+  stops : {x : Walk} {t : ℕ} → Fixed levels us x list' t → Kept w x → (e : ℕ) → w' ≡ ended (suc e) x → Verdict levels us w' list' → Next levels us w w' list'
 
 pub kept : (w : Walk) → Kept w w
 kept w = record { level = refl; mask = refl; slot = refl; family = refl; rounds = refl }

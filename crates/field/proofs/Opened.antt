@@ -64,7 +64,7 @@ listed-shares : (us ls marks : List ℕ) (m i t : ℕ) → ((v : ℕ → ℕ) �
 unfolding isShared ends
 listed-shares us ls marks m i t weighed shared other none =
     let no-more : waiting (weigh (ends i t) us) marks m ≡ 0 =
-    waiting-zero (deeper us i t) (weigh (ends i t) us) marks m (λ j s a b c d. slot-apart us m i t j s shared other d) none in
+    waiting-zero (deeper us i t) (weigh (ends i t) us) marks m (λ j s c d. slot-apart us m i t j s shared other d) none in
     let all : tally (ends i t) ls + waiting (weigh (ends i t) us) marks m ≡ tally (ends i t) us = weighed (ends i t) in
     let same : tally (ends i t) ls ≡ tally (ends i t) us = omega (arith, no-more, all) in
     ap (λ (k : ℕ). leb 2 k) (length-ending i t ls ∙ same ∙ sym (length-ending i t us)) ∙ shared

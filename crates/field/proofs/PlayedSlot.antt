@@ -3,6 +3,7 @@
 use mathlib.Core.Path.{_≡_, sym, ap, subst, subst⁻¹, _∙_}
 use mathlib.Core.Bool.{true, false}
 use Prim.Native.Nat.{ℕ, _^_, _≤_, _<_}
+use native.Mathlib.Omega.{arith}
 use mathlib.Core.List.{List, [], _∷_}
 use lib.ListN.{length}
 use Rattle.walk.specs.declared.Walk.{Walk}
@@ -11,6 +12,7 @@ use Rattle.walk.specs.Record.{maskLength, isAccepted, isRunning}
 use Rattle.walk.specs.Hear.{judged, walkAfter, listAfter}
 use Rattle.walk.specs.Ask.{sent, roomAfter}
 use Rattle.walk.proofs.HearWays.{walk-heard, ended-heard}
+use Rattle.walk.proofs.Limits.{Accepted, accepted-of-is-accepted}
 use Rattle.play.specs.Life.{Tag}
 use Rattle.field.specs.Field.{answering, replies, arrives}
 use Rattle.field.specs.Played.{Play, slotPlayed}
@@ -21,7 +23,7 @@ use Rattle.field.proofs.InTime.{AtSlot, Follows, Both, none, more, Befo
 use Rattle.field.proofs.InStep.{slot-follows, self-follows}
 use Rattle.field.proofs.Callers.{called-callers, callers-fit, callers-judged, callers}
 use Rattle.field.proofs.RowHeard.{Hears, row-at, row-replies, both-map}
-use Rattle.field.proofs.RowAsked.{Fits, accepted-fits, walk-asked, row-hears}
+use Rattle.field.proofs.RowAsked.{walk-asked, row-hears}
 use Rattle.field.proofs.WalkServed.{room-left, ended-asked, nothing-reached}
 
 pub record SlotPlayed (family : ℕ) (tags₀ : List Tag) (p q : Play) : Type 0 where
@@ -31,41 +33,41 @@ pub record SlotPlayed (family : ℕ) (tags₀ : List Tag) (p q : Play) : Type 0 
   pub tags : Both (AtSlot family (p .walk .level) (p .walk .mask) (p .walk .slot)) tags₀ (q .tags)
 
 -- what arrives is judged to be what the UIDs bring
-slot-heard : (ts₀ ts : List Tag) (w : Walk) (room : List ℕ) → AllObey ts₀ → Fits w
+slot-heard : (ts₀ ts : List Tag) (w : Walk) (room : List ℕ) → AllObey ts₀ → Accepted w
     → Both (Hears (w .family) w (sent w) (roomAfter w (sent w) room)) ts₀ ts
     → judged w (arrives (replies (sent w) (roomAfter w (sent w) room) ts) .kind) (arrives (replies (sent w) (roomAfter w (sent w) room) ts) .bytes)
     ≡ slotOf (called (answering (w .family) ts₀) w)
 slot-heard ts₀ ts w room obey fits hears =
     rw (row-replies (w .family) w (sent w) (roomAfter w (sent w) room) ts₀ ts hears)
     (callers-judged w (callers (w .family) w ts₀) (callers-fit (w .family) w ts₀ obey)
-    ∙ ap slotOf (sym (called-callers (w .family) w ts₀ (fits .mask) (fits .slot))))
+    ∙ ap slotOf (sym (called-callers (w .family) w ts₀ (fits .mask) (omega (arith, fits .slot)))))
 
 -- a slot of a walk that hears, by its own family
-own-played : (tags₀ : List Tag) (p : Play) → AllObey tags₀ → isAccepted (p .walk) ≡ true → isRunning (p .walk) ≡ true → 64 ≤ length (p .list)
-    → 14 ≤ length (p .room) → Before (p .walk .family) (p .walk .level) (p .walk .mask) (p .walk .slot) tags₀ (p .tags)
+own-played : (tags₀ : List Tag) (p : Play) → AllObey tags₀ → isAccepted (p .walk) ≡ true → p .walk .level < 16 → isRunning (p .walk) ≡ true
+    → 64 ≤ length (p .list) → 14 ≤ length (p .room) → Before (p .walk .family) (p .walk .level) (p .walk .mask) (p .walk .slot) tags₀ (p .tags)
     → SlotPlayed (p .walk .family) tags₀ p (slotPlayed p)
 unfolding slotPlayed
-own-played tags₀ p obey accepted running places room before =
+own-played tags₀ p obey accepted level running places room before =
     let w : Walk = p .walk in
-    let fits : Fits w = accepted-fits w accepted in
-    let hears = row-hears w tags₀ (p .tags) (p .room) obey fits running before in
+    let fits : Accepted w = accepted-of-is-accepted w accepted in
+    let hears = row-hears w tags₀ (p .tags) (p .room) obey fits level running before in
     let rs : List (List ℕ) = replies (sent w) (roomAfter w (sent w) (p .room)) (p .tags) in
     let heard = slot-heard tags₀ (p .tags) w (p .room) obey fits hears in
     rw (walk-asked w (p .room) accepted room, walk-heard w (arrives rs .kind) (arrives rs .bytes) (p .list) accepted running places)
     (record {
       walk = ap (walkAfter w) heard;
       list = ap (λ (slot : Slot). listAfter w slot (p .list)) heard;
-      room = room-left w (sent w) (p .room) (fits .level) room;
+      room = room-left w (sent w) (p .room) level room;
       tags = row-at (w .family) w (sent w) (roomAfter w (sent w) (p .room)) tags₀ (p .tags) obey hears;
     })
 
 -- a slot of a walk that hears
-pub slot-played : (family : ℕ) (tags₀ : List Tag) (p : Play) → AllObey tags₀ → isAccepted (p .walk) ≡ true → isRunning (p .walk) ≡ true
-    → p .walk .family ≡ family → 64 ≤ length (p .list) → 14 ≤ length (p .room)
+pub slot-played : (family : ℕ) (tags₀ : List Tag) (p : Play) → AllObey tags₀ → isAccepted (p .walk) ≡ true → p .walk .level < 16
+    → isRunning (p .walk) ≡ true → p .walk .family ≡ family → 64 ≤ length (p .list) → 14 ≤ length (p .room)
     → Before family (p .walk .level) (p .walk .mask) (p .walk .slot) tags₀ (p .tags) → SlotPlayed family tags₀ p (slotPlayed p)
-slot-played family tags₀ p obey accepted running same places room before =
+slot-played family tags₀ p obey accepted level running same places room before =
     subst (λ (f : ℕ). SlotPlayed f tags₀ p (slotPlayed p)) same
-    (own-played tags₀ p obey accepted running places room
+    (own-played tags₀ p obey accepted level running places room
     (subst⁻¹ (λ (f : ℕ). Before f (p .walk .level) (p .walk .mask) (p .walk .slot) tags₀ (p .tags)) same before))
 
 -- an ended walk hears no more, and sends nothing

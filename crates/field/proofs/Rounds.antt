@@ -2,24 +2,24 @@
 -- Assumes nothing.
 use mathlib.Core.Path.{_≡_, refl, sym, ap, _∙_}
 use mathlib.Core.Bool.{true, false, false≢true}
-use Prim.Native.Nat.{ℕ, zero, suc, _+_, _*_, _^_, _<_}
+use Prim.Native.Nat.{ℕ, zero, suc, _+_, _*_}
 use mathlib.Core.List.{List}
-use lib.ListN.{getD}
 use Rattle.walk.specs.declared.Walk.{Walk}
 use Rattle.walk.specs.Record.{isRunning, remade, ended}
 use Rattle.play.specs.Life.{Tag}
 use Rattle.field.specs.Field.{answering}
 use Rattle.field.specs.Played.{Play, slotPlayed, playedFor, fresh}
 use Rattle.field.specs.Demand.{AllObey, roundsCounted, roundsKept}
-use Rattle.field.proofs.Accepted.{walks-accepted}
-use Rattle.field.proofs.Next.{Next, moves, opens, stops}
+use Rattle.field.proofs.Accepted.{walks-accepted, walks-level}
+use Rattle.field.proofs.Next.{Suits, Next, moves, opens, stops}
+use Rattle.field.proofs.Suited.{uids-suit}
 use Rattle.field.proofs.PlayedSlot.{SlotPlayed, slot-played, ended-played}
 use Rattle.field.proofs.Stages.{Stage, hears, rests, running-of, slot-leaves}
-use Rattle.field.proofs.Demand3.{uids-fit, stage-after}
+use Rattle.field.proofs.Demand3.{stage-after}
 
 -- ---- while the walk runs
 
-runs-counted : (family : ℕ) (tags : List Tag) (us : List ℕ) (n : ℕ) (p : Play) → Stage family tags us n p → isRunning (p .walk) ≡ true
+runs-counted : {levels : ℕ} (family : ℕ) (tags : List Tag) (us : List ℕ) (n : ℕ) (p : Play) → Stage levels family tags us n p → isRunning (p .walk) ≡ true
     → 16 * p .walk .rounds + p .walk .slot ≡ 16 + n
 runs-counted family tags us n p (hears g s e f room count b) running = count
 runs-counted family tags us n p (rests a r v b) running = absurd (false≢true (sym r ∙ running))
@@ -32,18 +32,19 @@ rounds-of-a-field family tags list room obey places fits n =
 
 -- ---- at the end
 
-ended-rounds : (us : List ℕ) (w w' : Walk) (list : List ℕ) → w .ending ≡ 0 → Next us w w' list → isRunning w' ≡ false → w' .rounds ≡ w .rounds
+ended-rounds : {levels : ℕ} (us : List ℕ) (w w' : Walk) (list : List ℕ) → w .ending ≡ 0 → Next levels us w w' list → isRunning w' ≡ false → w' .rounds ≡ w .rounds
 unfolding ended remade
 ended-rounds us w w' list e (moves g s l m t y z r) end = absurd (false≢true (sym end ∙ running-of w' (z ∙ e)))
 ended-rounds us w w' list e (opens g s t y z r) end = absurd (false≢true (sym end ∙ running-of w' (z ∙ e)))
 ended-rounds us w w' list e (stops g k d same v) end = ap (λ (x : Walk). x .rounds) same ∙ k .rounds
 
-slot-rounds : (family : ℕ) (tags : List Tag) (n : ℕ) (p : Play) → AllObey tags → ((i : ℕ) → getD (answering family tags) i 0 < 16 ^ 16)
-    → Stage family tags (answering family tags) n p → isRunning (slotPlayed p .walk) ≡ false → slotPlayed p .walk .rounds ≡ p .walk .rounds
+slot-rounds : {levels : ℕ} (family : ℕ) (tags : List Tag) (n : ℕ) (p : Play) → AllObey tags → Suits levels (answering family tags)
+    → Stage levels family tags (answering family tags) n p → isRunning (slotPlayed p .walk) ≡ false → slotPlayed p .walk .rounds ≡ p .walk .rounds
 slot-rounds family tags n p obey fit (hears g h e f room count row) end =
     let w : Walk = p .walk in
     let played : SlotPlayed family tags p (slotPlayed p) =
-    slot-played family tags p obey (walks-accepted w (p .list) (w .slot) h (g .walks)) (running-of w e) f (g .walks .places-fit) room row in
+    slot-played family tags p obey (walks-accepted w (p .list) (w .slot) h (g .walks))
+    (walks-level w (p .list) (w .slot) (fit .most) (g .walks)) (running-of w e) f (g .walks .places-fit) room row in
     ended-rounds (answering family tags) w (slotPlayed p .walk) (slotPlayed p .list) e (slot-leaves family tags p fit g h played) end
 slot-rounds family tags n p obey fit (rests a r v row) end = ap (λ (q : Play). q .walk .rounds) (ended-played p a r)
 
@@ -59,5 +60,5 @@ rounds-after-a-field family tags list room obey places fits n end =
     let p : Play = playedFor n (fresh family list room tags) in
     let last = played-last n (fresh family list room tags) in
     ap (λ (q : Play). q .walk .rounds) last
-    ∙ slot-rounds family tags n p obey (uids-fit family tags obey) (stage-after family tags list room obey places fits n)
+    ∙ slot-rounds family tags n p obey (uids-suit family tags obey) (stage-after family tags list room obey places fits n)
     (ap (λ (q : Play). isRunning (q .walk)) (sym last) ∙ end)

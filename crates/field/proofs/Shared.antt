@@ -13,8 +13,8 @@ use Rattle.tails.proofs.Digits.{power-positive, tail-tail, above-tail}
 use Rattle.walk.specs.declared.Walk.{Walk}
 use Rattle.walk.specs.Marks.{withMark, withoutMark, lowest, deepest}
 use Rattle.walk.specs.Record.{noMarks, openedMask, remade, marked, openedAt, opened}
-use Rattle.field.proofs.Waiting.{wait, wait-marked-slot, wait-opened, wait-opened-slot, wait-level, wait-none, wait-lowest, deepest-mark, deepest-below}
-use Rattle.field.proofs.Levels.{no-mark, no-mark-deeper, opened-mask}
+use Rattle.field.proofs.Waiting.{wait, wait-marked-slot, wait-opened, wait-opened-slot, wait-level, wait-none, wait-lowest, deepest-mark, deepest-below, deepest-last}
+use Rattle.field.proofs.Levels.{no-mark, opened-mask}
 use Rattle.field.proofs.Steady.{Steady, mask-tail}
 use Rattle.field.proofs.WaitSums.{slotTail}
 
@@ -22,10 +22,10 @@ unfoldable pub Crowded : List ℕ → List ℕ → ℕ → Type 0
 Crowded us marks mask = (j s : ℕ) → wait marks j s ≡ 1 → isShared us (suc j) (slotTail j (mask % 16 ^ j) s) ≡ true
 
 -- no slot waits at the start
-pub start-crowded : (us : List ℕ) (mask : ℕ) → Crowded us noMarks mask
+pub start-crowded : (us : List ℕ) (levels mask : ℕ) → Crowded us (noMarks levels) mask
 unfolding Crowded
-start-crowded us mask j s waits =
-    let none : wait noMarks j s ≡ 0 = wait-none noMarks j s (no-mark j) in
+start-crowded us levels mask j s waits =
+    let none : wait (noMarks levels) j s ≡ 0 = wait-none (noMarks levels) j s (no-mark levels j) in
     absurd (omega arith)
 
 pub marked-crowded : (us : List ℕ) (w : Walk) → w .slot < 16 → Steady w (w .slot) → Crowded us (w .marks) (w .mask)
@@ -34,7 +34,7 @@ unfolding marked remade Crowded
 marked-crowded us w h steady old here j s waits = level (ℕ-discrete j (w .level))
   where
     inside : w .level < length (w .marks)
-    inside = rw (steady .marks-length) (steady .accepted .level)
+    inside = steady .accepted .level
 
     slot : j ≡ w .level → Dec (s ≡ w .slot) → isShared us (suc j) (slotTail j (w .mask % 16 ^ j) s) ≡ true
     slot e (yes f) = rw (e, f, mod-eq-of-lt (mask-tail steady)) here
@@ -68,7 +68,7 @@ opened-crowded us w j steady deep old i s waits = level (ℕ-discrete i j)
     t = lowest (getD (w .marks) j 0)
 
     inside : j < length (w .marks)
-    inside = rw (steady .marks-length) (deepest-below (w .marks) j deep)
+    inside = deepest-below (w .marks) j deep
 
     tails : i ≤ j → openedMask (w .mask) j t % 16 ^ i ≡ w .mask % 16 ^ i
     tails g =
@@ -91,7 +91,7 @@ opened-crowded us w j steady deep old i s waits = level (ℕ-discrete i j)
     other : wait (w .marks) i s ≡ 1 → Dec (i ≤ j) → isShared us (suc i) (slotTail i (openedMask (w .mask) j t % 16 ^ i) s) ≡ true
     other before (yes g) = kept g before
     other before (no g) =
-        let none : wait (w .marks) i s ≡ 0 = wait-none (w .marks) i s (no-mark-deeper (w .marks) j (steady .marks-length) deep i (omega arith)) in
+        let none : wait (w .marks) i s ≡ 0 = wait-none (w .marks) i s (deepest-last (w .marks) i (omega arith)) in
         absurd (omega arith)
 
     level : Dec (i ≡ j) → isShared us (suc i) (slotTail i (openedMask (w .mask) j t % 16 ^ i) s) ≡ true

@@ -2,42 +2,48 @@
 -- By the slot that is played and the slot that the UIDs bring. Assumes nothing.
 use mathlib.Core.Path.{_≡_, refl, sym, subst, _∙_}
 use mathlib.Core.Bool.{true, false}
-use Prim.Native.Nat.{ℕ, zero, suc, _+_, _*_, _^_, _≤_, _<_}
+use Prim.Native.Nat.{ℕ, zero, suc, _+_, _*_, _≤_, _<_}
 use native.Mathlib.Omega.{arith}
 use mathlib.Core.List.{List}
 use borrow.Author.Tests.{eq-eqb, ne-eqb}
-use lib.ListN.{length, getD}
+use lib.ListN.{length}
 use Rattle.walk.specs.declared.Walk.{Walk}
-use Rattle.walk.specs.Record.{isRunning, isAccepted, started, ended, remade}
+use Rattle.walk.specs.Marks.{levels}
+use Rattle.walk.specs.Record.{isRunning, isAccepted, startedOf, started, ended, remade}
 use Rattle.play.specs.Life.{Tag}
 use Rattle.field.specs.Field.{answering}
-use Rattle.field.specs.Played.{Play, slotPlayed, playedFor, fresh}
+use Rattle.field.specs.Played.{Play, slotPlayed, playedFor, freshOf, fresh}
 use Rattle.field.specs.Demand.{AllObey}
 use Rattle.walk.specs.Hear.{walkAfter}
 use Rattle.walk.proofs.Limits.{is-accepted-of-accepted}
 use Rattle.walk.proofs.Accepted.{ended-facts}
 use Rattle.field.proofs.Steady.{Steady}
-use Rattle.field.proofs.Accepted.{walks-accepted}
+use Rattle.field.proofs.Accepted.{walks-accepted, walks-level}
 use Rattle.field.proofs.FixedField.{Fixed, start-fixed}
 use Rattle.field.proofs.Called.{called, slotOf}
-use Rattle.field.proofs.Next.{Verdict, Kept, Next, moves, opens, stops}
+use Rattle.field.proofs.Next.{Suits, Verdict, Kept, Next, moves, opens, stops}
 use Rattle.field.proofs.Steps.{slot-next}
 use Rattle.field.proofs.InTime.{AtSlot, Both, Before}
 use Rattle.field.proofs.PlayedSlot.{SlotPlayed, slot-played, ended-played, at-slot-follows, follows-self}
 
--- after n slots of a walk p over the cards tags, those that answer having the UIDs us
-pub data Stage (family : ℕ) (tags : List Tag) (us : List ℕ) (n : ℕ) (p : Play) : Type 0 where
-  hears : Fixed us (p .walk) (p .list) (p .walk .slot) → p .walk .slot < 16 → p .walk .ending ≡ 0 → p .walk .family ≡ family → 14 ≤ length (p .room)
+-- after n slots of a walk p of so many levels over the cards tags, those that answer having the UIDs us
+pub data Stage (levels family : ℕ) (tags : List Tag) (us : List ℕ) (n : ℕ) (p : Play) : Type 0 where
+  hears : Fixed levels us (p .walk) (p .list) (p .walk .slot) → p .walk .slot < 16 → p .walk .ending ≡ 0 → p .walk .family ≡ family → 14 ≤ length (p .room)
       → 16 * p .walk .rounds + p .walk .slot ≡ 16 + n → Before family (p .walk .level) (p .walk .mask) (p .walk .slot) tags (p .tags)
-      → Stage family tags us n p
-  rests : isAccepted (p .walk) ≡ true → isRunning (p .walk) ≡ false → Verdict us (p .walk) (p .list)
-      → Both (AtSlot family (p .walk .level) (p .walk .mask) (p .walk .slot)) tags (p .tags) → Stage family tags us n p
+      → Stage levels family tags us n p
+  rests : isAccepted (p .walk) ≡ true → isRunning (p .walk) ≡ false → Verdict levels us (p .walk) (p .list)
+      → Both (AtSlot family (p .walk .level) (p .walk .mask) (p .walk .slot)) tags (p .tags) → Stage levels family tags us n p
+
+pub stage-start : (levels family : ℕ) (tags : List Tag) (us list room : List ℕ) → 1 ≤ levels → AllObey tags → 64 ≤ length list → 14 ≤ length room
+    → Stage levels family tags us 0 (freshOf levels family list room tags)
+unfolding freshOf startedOf Before
+stage-start levels family tags us list room least obey h g =
+    hears (start-fixed levels us family list least h) (omega arith) refl refl g (omega arith) (follows-self tags obey)
 
 pub stage-fresh : (family : ℕ) (tags : List Tag) (us list room : List ℕ) → AllObey tags → 64 ≤ length list → 14 ≤ length room
-    → Stage family tags us 0 (fresh family list room tags)
-unfolding fresh started Before
-stage-fresh family tags us list room obey h g =
-    hears (start-fixed us family list h) (omega arith) refl refl g (omega arith) (follows-self tags obey)
+    → Stage levels family tags us 0 (fresh family list room tags)
+unfolding fresh freshOf started levels
+stage-fresh family tags us list room obey h g = stage-start levels family tags us list room (omega arith) obey h g
 
 -- a walk that is not running has an ending
 pub running-of : (w : Walk) → w .ending ≡ 0 → isRunning w ≡ true
@@ -53,9 +59,9 @@ row-kept : (family : ℕ) (tags ts : List Tag) (w x : Walk) → Kept w x → Bot
     → Both (AtSlot family (x .level) (x .mask) (x .slot)) tags ts
 row-kept family tags ts w x k row = rw (k .level, k .mask, k .slot) row
 
-rest-of : (family : ℕ) (tags : List Tag) (us : List ℕ) (n : ℕ) (w x : Walk) (q : Play) (t e : ℕ) → w .slot < 16 → Fixed us x (q .list) t → Kept w x
-    → q .walk ≡ ended (suc e) x → Verdict us (q .walk) (q .list) → Both (AtSlot family (w .level) (w .mask) (w .slot)) tags (q .tags)
-    → Stage family tags us n q
+rest-of : {levels : ℕ} (family : ℕ) (tags : List Tag) (us : List ℕ) (n : ℕ) (w x : Walk) (q : Play) (t e : ℕ) → w .slot < 16 → Fixed levels us x (q .list) t → Kept w x
+    → q .walk ≡ ended (suc e) x → Verdict levels us (q .walk) (q .list) → Both (AtSlot family (w .level) (w .mask) (w .slot)) tags (q .tags)
+    → Stage levels family tags us n q
 unfolding ended remade
 rest-of family tags us n w x q t e h g k same verdict row =
     rests
@@ -65,46 +71,47 @@ rest-of family tags us n w x q t e h g k same verdict row =
     (subst (λ (y : Walk). Both (AtSlot family (y .level) (y .mask) (y .slot)) tags (q .tags)) (sym same) (row-kept family tags (q .tags) w x k row))
 
 -- what the next slot finds
-next-stage : (family : ℕ) (tags : List Tag) (us : List ℕ) (n : ℕ) (w : Walk) (q : Play) → AllObey tags → Steady w (w .slot) → w .slot < 16
-    → w .ending ≡ 0 → w .family ≡ family → 14 ≤ length (q .room) → 16 * w .rounds + w .slot ≡ 16 + n
-    → Both (AtSlot family (w .level) (w .mask) (w .slot)) tags (q .tags) → Next us w (q .walk) (q .list) → Stage family tags us (suc n) q
+next-stage : {levels : ℕ} (family : ℕ) (tags : List Tag) (us : List ℕ) (n : ℕ) (w : Walk) (q : Play) → AllObey tags → Steady w (w .slot)
+    → w .level < 16 → w .slot < 16 → w .ending ≡ 0 → w .family ≡ family → 14 ≤ length (q .room) → 16 * w .rounds + w .slot ≡ 16 + n
+    → Both (AtSlot family (w .level) (w .mask) (w .slot)) tags (q .tags) → Next levels us w (q .walk) (q .list) → Stage levels family tags us (suc n) q
 unfolding Before
-next-stage family tags us n w q obey steady h e f room count row (moves g s l m t y z r) =
-    hears (subst (λ (k : ℕ). Fixed us (q .walk) (q .list) k) (sym t) g) (omega (arith, t)) (z ∙ e) (y ∙ f) room (omega (arith, t, r, count))
+next-stage {levels} family tags us n w q obey steady level h e f room count row (moves g s l m t y z r) =
+    hears (subst (λ (k : ℕ). Fixed levels us (q .walk) (q .list) k) (sym t) g) (omega (arith, t)) (z ∙ e) (y ∙ f) room (omega (arith, t, r, count))
     (rw (l, m, t) row)
-next-stage family tags us n w q obey steady h e f room count row (opens g s t y z r) =
-    hears (subst (λ (k : ℕ). Fixed us (q .walk) (q .list) k) (sym t) g) (omega (arith, t)) (z ∙ e) (y ∙ f) room (omega (arith, s, t, r, count))
+next-stage {levels} family tags us n w q obey steady level h e f room count row (opens g s t y z r) =
+    hears (subst (λ (k : ℕ). Fixed levels us (q .walk) (q .list) k) (sym t) g) (omega (arith, t)) (z ∙ e) (y ∙ f) room (omega (arith, s, t, r, count))
     (rw t
-    (at-slot-follows family (w .level) (w .mask) (w .slot) tags (q .tags) obey (steady .accepted .level) h (steady .accepted .mask) row))
-next-stage family tags us n w q obey steady h e f room count row (stops {x} {t} g k d same verdict) =
+    (at-slot-follows family (w .level) (w .mask) (w .slot) tags (q .tags) obey level h (steady .accepted .mask) row))
+next-stage family tags us n w q obey steady level h e f room count row (stops {x} {t} g k d same verdict) =
     rest-of family tags us (suc n) w x q t d h g k same verdict row
 
 -- what a slot leaves of a walk that hears
-pub slot-leaves : (family : ℕ) (tags : List Tag) (p : Play) → ((i : ℕ) → getD (answering family tags) i 0 < 16 ^ 16)
-    → Fixed (answering family tags) (p .walk) (p .list) (p .walk .slot) → p .walk .slot < 16 → SlotPlayed family tags p (slotPlayed p)
-    → Next (answering family tags) (p .walk) (slotPlayed p .walk) (slotPlayed p .list)
-slot-leaves family tags p fit g h played =
+pub slot-leaves : {levels : ℕ} (family : ℕ) (tags : List Tag) (p : Play) → Suits levels (answering family tags)
+    → Fixed levels (answering family tags) (p .walk) (p .list) (p .walk .slot) → p .walk .slot < 16 → SlotPlayed family tags p (slotPlayed p)
+    → Next levels (answering family tags) (p .walk) (slotPlayed p .walk) (slotPlayed p .list)
+slot-leaves {levels} family tags p fit g h played =
     let us : List ℕ = answering family tags in
     let w : Walk = p .walk in
-    subst (λ (y : Walk). Next us w y (slotPlayed p .list)) (sym (played .walk))
-    (subst (λ (l : List ℕ). Next us w (walkAfter w (slotOf (called us w))) l) (sym (played .list)) (slot-next us w (p .list) fit h g))
+    subst (λ (y : Walk). Next levels us w y (slotPlayed p .list)) (sym (played .walk))
+    (subst (λ (l : List ℕ). Next levels us w (walkAfter w (slotOf (called us w))) l) (sym (played .list)) (slot-next us w (p .list) fit h g))
 
-pub stage-slot : (family : ℕ) (tags : List Tag) (n : ℕ) (p : Play) → AllObey tags → ((i : ℕ) → getD (answering family tags) i 0 < 16 ^ 16)
-    → Stage family tags (answering family tags) n p → Stage family tags (answering family tags) (suc n) (slotPlayed p)
+pub stage-slot : {levels : ℕ} (family : ℕ) (tags : List Tag) (n : ℕ) (p : Play) → AllObey tags → Suits levels (answering family tags)
+    → Stage levels family tags (answering family tags) n p → Stage levels family tags (answering family tags) (suc n) (slotPlayed p)
 stage-slot family tags n p obey fit (hears g h e f room count row) =
     let w : Walk = p .walk in
     let us : List ℕ = answering family tags in
+    let level : w .level < 16 = walks-level w (p .list) (w .slot) (fit .most) (g .walks) in
     let played : SlotPlayed family tags p (slotPlayed p) =
-    slot-played family tags p obey (walks-accepted w (p .list) (w .slot) h (g .walks)) (running-of w e) f (g .walks .places-fit) room row in
-    next-stage family tags us n w (slotPlayed p) obey (g .walks .steady) h e f (rw (played .room) room) count (played .tags)
+    slot-played family tags p obey (walks-accepted w (p .list) (w .slot) h (g .walks)) level (running-of w e) f (g .walks .places-fit) room row in
+    next-stage family tags us n w (slotPlayed p) obey (g .walks .steady) level h e f (rw (played .room) room) count (played .tags)
     (slot-leaves family tags p fit g h played)
-stage-slot family tags n p obey fit (rests a r v row) =
-    subst (λ (q : Play). Stage family tags (answering family tags) (suc n) q) (sym (ended-played p a r)) (rests a r v row)
+stage-slot {levels} family tags n p obey fit (rests a r v row) =
+    subst (λ (q : Play). Stage levels family tags (answering family tags) (suc n) q) (sym (ended-played p a r)) (rests a r v row)
 
-pub stage-for : (family : ℕ) (tags : List Tag) (n m : ℕ) (p : Play) → AllObey tags → ((i : ℕ) → getD (answering family tags) i 0 < 16 ^ 16)
-    → Stage family tags (answering family tags) m p → Stage family tags (answering family tags) (m + n) (playedFor n p)
+pub stage-for : {levels : ℕ} (family : ℕ) (tags : List Tag) (n m : ℕ) (p : Play) → AllObey tags → Suits levels (answering family tags)
+    → Stage levels family tags (answering family tags) m p → Stage levels family tags (answering family tags) (m + n) (playedFor n p)
 unfolding playedFor
-stage-for family tags zero m p obey fit s = subst (λ (k : ℕ). Stage family tags (answering family tags) k p) (omega arith) s
-stage-for family tags (suc n) m p obey fit s =
-    subst (λ (k : ℕ). Stage family tags (answering family tags) k (playedFor n (slotPlayed p))) (omega arith)
+stage-for {levels} family tags zero m p obey fit s = subst (λ (k : ℕ). Stage levels family tags (answering family tags) k p) (omega arith) s
+stage-for {levels} family tags (suc n) m p obey fit s =
+    subst (λ (k : ℕ). Stage levels family tags (answering family tags) k (playedFor n (slotPlayed p))) (omega arith)
     (stage-for family tags n (suc m) (slotPlayed p) obey fit (stage-slot family tags m p obey fit s))

@@ -2,10 +2,9 @@
 -- By the stages of the walk. Assumes nothing.
 use mathlib.Core.Path.{_≡_, refl, ap, _∙_}
 use mathlib.Core.Bool.{false, cond}
-use Prim.Native.Nat.{ℕ, zero, suc, _+_, _^_, _<_}
+use Prim.Native.Nat.{ℕ, zero, suc, _+_, _≤_}
 use native.Mathlib.Nat.{zero-add, suc-add}
 use mathlib.Core.List.{List}
-use lib.ListN.{getD}
 use Rattle.walk.specs.declared.Walk.{Walk}
 use Rattle.walk.specs.Record.{isRunning}
 use Rattle.walk.specs.Hear.{walkAfter, listAfter}
@@ -14,7 +13,8 @@ use Rattle.field.specs.Field.{answering}
 use Rattle.field.specs.Played.{Play, slotPlayed, playedFor}
 use Rattle.field.specs.Demand.{AllObey}
 use Rattle.field.proofs.Called.{called, slotOf}
-use Rattle.field.proofs.Accepted.{walks-accepted}
+use Rattle.field.proofs.Accepted.{walks-accepted, walks-level}
+use Rattle.field.proofs.Next.{Suits}
 use Rattle.field.proofs.PlayedSlot.{SlotPlayed, slot-played, ended-played}
 use Rattle.field.proofs.Stages.{Stage, hears, rests, running-of, stage-slot}
 
@@ -50,20 +50,20 @@ stood-ended us (suc n) s e = rw e (stood-ended us n s e)
 abbrev pub standOf : Play → Stand
 standOf p = record { walk = p .walk; list = p .list }
 
-slot-stood : (family : ℕ) (tags : List Tag) (n : ℕ) (p : Play) → AllObey tags → Stage family tags (answering family tags) n p
+slot-stood : {levels : ℕ} (family : ℕ) (tags : List Tag) (n : ℕ) (p : Play) → AllObey tags → levels ≤ 16 → Stage levels family tags (answering family tags) n p
     → standOf (slotPlayed p) ≡ stood (answering family tags) (standOf p)
 unfolding stood
-slot-stood family tags n p obey (hears g h e f room count row) =
+slot-stood family tags n p obey most (hears g h e f room count row) =
     let played : SlotPlayed family tags p (slotPlayed p) =
-    slot-played family tags p obey (walks-accepted (p .walk) (p .list) (p .walk .slot) h (g .walks)) (running-of (p .walk) e) f (g .walks .places-fit) room
-    row in
+    slot-played family tags p obey (walks-accepted (p .walk) (p .list) (p .walk .slot) h (g .walks))
+    (walks-level (p .walk) (p .list) (p .walk .slot) most (g .walks)) (running-of (p .walk) e) f (g .walks .places-fit) room row in
     rw (running-of (p .walk) e) (λ i. record { walk = played .walk i; list = played .list i })
-slot-stood family tags n p obey (rests a r v row) = rw (r, ended-played p a r)
+slot-stood family tags n p obey most (rests a r v row) = rw (r, ended-played p a r)
 
-pub played-stood : (family : ℕ) (tags : List Tag) (n m : ℕ) (p : Play) → AllObey tags → ((i : ℕ) → getD (answering family tags) i 0 < 16 ^ 16)
-    → Stage family tags (answering family tags) m p → standOf (playedFor n p) ≡ stoodFor (answering family tags) n (standOf p)
+pub played-stood : {levels : ℕ} (family : ℕ) (tags : List Tag) (n m : ℕ) (p : Play) → AllObey tags → Suits levels (answering family tags)
+    → Stage levels family tags (answering family tags) m p → standOf (playedFor n p) ≡ stoodFor (answering family tags) n (standOf p)
 unfolding playedFor stoodFor
 played-stood family tags zero m p obey fit s = refl
 played-stood family tags (suc n) m p obey fit s =
     played-stood family tags n (suc m) (slotPlayed p) obey fit (stage-slot family tags m p obey fit s)
-    ∙ ap (stoodFor (answering family tags) n) (slot-stood family tags m p obey s)
+    ∙ ap (stoodFor (answering family tags) n) (slot-stood family tags m p obey (fit .most) s)

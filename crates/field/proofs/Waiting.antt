@@ -3,15 +3,16 @@
 use mathlib.Core.Path.{_≡_, refl, ap}
 use mathlib.Core.Bool.{Bool, true, false, cond}
 use Prim.Native.Nat.{ℕ, suc, _+_, _-_, _^_, _≤_, _<_}
+use native.Mathlib.Decide.{decLt}
 use native.Mathlib.Nat.{zero-div}
 use native.Mathlib.Omega.{arith}
 use mathlib.Core.List.{List}
 use borrow.Author.Tests.{eq-eqb, ne-eqb, eqb-true, eqb-false}
 use lib.Dec.{eqb}
-use lib.ListN.{length, getD, set}
+use lib.ListN.{length, getD, set, List·getD-eq-default}
 use lib.Seq.{getD-set-same, getD-set-other}
 use Rattle.tails.specs.Sum.{one}
-use Rattle.walk.specs.Marks.{levels, waits, withMark, withoutMark, lowest, deepestOf, deepest}
+use Rattle.walk.specs.Marks.{waits, withMark, withoutMark, lowest, deepestOf, deepest}
 use Rattle.walk.proofs.Levels as walk
 use Rattle.walk.proofs.Levels.{deepest-of-most}
 use Rattle.field.proofs.Bits.{bit, bit-added, bit-added-other, bit-taken, bit-taken-other}
@@ -111,25 +112,29 @@ pub wait-none : (marks : List ℕ) (j s : ℕ) → getD marks j 0 ≡ 0 → wait
 unfolding wait waits one
 wait-none marks j s h = rw (h, zero-div (2 ^ s))
 
--- no mark at all
-pub deepest-none : (marks : List ℕ) → deepest marks ≡ 0 → (j s : ℕ) → j < 16 → wait marks j s ≡ 0
-unfolding deepest levels
-deepest-none marks h j s g = wait-none marks j s (deepest-of-last marks 16 j (omega arith) g)
-
 -- the deepest level with a mark
-pub deepest-below : (marks : List ℕ) (j : ℕ) → deepest marks ≡ suc j → j < 16
-unfolding deepest levels
+pub deepest-below : (marks : List ℕ) (j : ℕ) → deepest marks ≡ suc j → j < length marks
+unfolding deepest
 deepest-below marks j h =
-    let most : deepestOf marks 16 ≤ 16 = deepest-of-most marks 16 in
+    let most : deepestOf marks (length marks) ≤ length marks = deepest-of-most marks (length marks) in
     omega arith
 
 pub deepest-mark : (marks : List ℕ) (j : ℕ) → deepest marks ≡ suc j → getD marks j 0 ≡ 0 → ⊥
-unfolding deepest levels
-deepest-mark marks j h e = deepest-of-mark marks 16 j h e
+unfolding deepest
+deepest-mark marks j h e = deepest-of-mark marks (length marks) j h e
 
-pub deepest-last : (marks : List ℕ) (j : ℕ) → deepest marks ≡ suc j → (i : ℕ) → j < i → i < 16 → getD marks i 0 ≡ 0
-unfolding deepest levels
-deepest-last marks j h i g f = deepest-of-last marks 16 i (omega arith) f
+-- no mark deeper
+pub deepest-last : (marks : List ℕ) (i : ℕ) → deepest marks ≤ i → getD marks i 0 ≡ 0
+unfolding deepest
+deepest-last marks i h = go (decLt i (length marks))
+  where
+    go : Dec (i < length marks) → getD marks i 0 ≡ 0
+    go (yes g) = deepest-of-last marks (length marks) i h g
+    go (no g) = List·getD-eq-default marks 0 {n = i} (omega arith)
+
+-- no mark at all
+pub deepest-none : (marks : List ℕ) → deepest marks ≡ 0 → (j s : ℕ) → wait marks j s ≡ 0
+deepest-none marks h j s = wait-none marks j s (deepest-last marks j (omega arith))
 
 pub lowest-waits : (m : ℕ) → m < 65536 → (m ≡ 0 → ⊥) → waits m (lowest m) ≡ true
 unfolding lowest

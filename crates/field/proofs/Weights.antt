@@ -5,7 +5,7 @@ use Prim.Native.Nat.{ℕ, suc, _+_, _-_, _^_, _<_}
 use native.Mathlib.Omega.{arith}
 use mathlib.Core.List.{List}
 use Rattle.tails.specs.Sum.{one, tally}
-use Rattle.tails.specs.Tails.{ending, isShared, sharedTails}
+use Rattle.tails.specs.Tails.{ending, isShared, sharedTailsTo}
 use Rattle.tails.proofs.Parts.{ending-all, ending-parts}
 use Rattle.tails.proofs.Below.{below, below-all}
 use Rattle.field.proofs.Ahead.{toHear}
@@ -25,16 +25,16 @@ weigh-all v us = rw ending-all
 pub weigh-start : (v : ℕ → ℕ) (us : List ℕ) → toHear (weigh v us) 0 0 0 ≡ tally v us
 weigh-start v us = weigh-parts v us 0 0 (omega arith) ∙ weigh-all v us
 
--- the shared tails of up to 15 digits that end in m
-unfoldable pub belowAt : List ℕ → ℕ → ℕ → ℕ
-belowAt us j m = below us (16 - j) j m
+-- the shared tails of fewer digits than levels that end in m
+unfoldable pub belowAt : ℕ → List ℕ → ℕ → ℕ → ℕ
+belowAt levels us j m = below us (levels - j) j m
 
-pub below-parts : (us : List ℕ) (j m : ℕ) → j < 16 → belowAt us j m ≡ one (isShared us j m) + toHear (belowAt us) j m 0
+pub below-parts : (levels : ℕ) (us : List ℕ) (j m : ℕ) → j < levels → belowAt levels us j m ≡ one (isShared us j m) + toHear (belowAt levels us) j m 0
 unfolding belowAt toHear below
-below-parts us j m h =
-    let more : 16 - j ≡ suc (16 - suc j) = omega arith in
+below-parts levels us j m h =
+    let more : levels - j ≡ suc (levels - suc j) = omega arith in
     rw more refl
 
-pub below-start : (us : List ℕ) → toHear (belowAt us) 0 0 0 ≡ sharedTails us
+pub below-start : (levels : ℕ) (us : List ℕ) → toHear (belowAt levels us) 0 0 0 ≡ sharedTailsTo (levels - 1) us
 unfolding belowAt toHear
-below-start us = below-all us
+below-start levels us = below-all us (levels - 1)

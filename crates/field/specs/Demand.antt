@@ -12,7 +12,7 @@ use Rattle.walk.specs.Record.{maskLength, isRunning}
 use Rattle.play.specs.Life.{Tag}
 use Rattle.field.specs.Field.{Obeys, answers, answering}
 use Rattle.field.specs.Played.{Play, playedFor, fresh}
-use Rattle.field.specs.Found.{Found}
+use Rattle.field.specs.Found.{FoundIn}
 
 -- every card of a field obeys
 pub data AllObey : List Tag → Type 0 where
@@ -39,13 +39,17 @@ unfoldable pub lockBytes : List Tag → List (List ℕ)
 lockBytes [] = []
 lockBytes (t ∷ ts) = t .locks ∷ lockBytes ts
 
--- the end of a walk p over the cards tags, those that answer its family having the UIDs us
-pub record Demand3 (family : ℕ) (tags : List Tag) (us : List ℕ) (p : Play) : Type 0 where
-  pub found : Found us (p .walk) (p .list)
+-- the end of a walk p over the cards tags, those that answer its family having the UIDs us. The tails that count have at most so many digits
+pub record Demand3In (digits family : ℕ) (tags : List Tag) (us : List ℕ) (p : Play) : Type 0 where
+  pub found : FoundIn digits us (p .walk) (p .list)
   -- the cards keep all but sequence and held answer
   pub cards-left : cards (p .tags) ≡ cardsLeft family (p .walk) tags
   pub memories-left : memories (p .tags) ≡ memories tags
   pub locks-left : lockBytes (p .tags) ≡ lockBytes tags
+
+-- "tails of 1 to 15 digits": the first part is `Found us`
+abbrev pub Demand3 : ℕ → List Tag → List ℕ → Play → Type 0
+Demand3 family tags us p = Demand3In 15 family tags us p
 
 -- Demand 3 gives the walk no number of slots to end in. Ours is 16 × 481: 16 slots for each round that a walk may have
 unfoldable pub demand3 : Type 0

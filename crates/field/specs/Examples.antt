@@ -5,6 +5,7 @@ use mathlib.Core.List.{List, [], _∷_}
 use mathlib.Core.Path.{_≡_}
 use lib.ListN.{length}
 use Rattle.walk.specs.declared.Walk.{Walk}
+use Rattle.walk.specs.Marks.{levels}
 use Rattle.walk.specs.Record.{complete, noMarks}
 use Rattle.play.specs.Life.{Tag}
 use Rattle.field.specs.Field.{answering}
@@ -17,7 +18,7 @@ three = 0xe004010000000011 ∷ 0xe004010000000021 ∷ 0xe004010000000005 ∷ []
 
 -- the walk at its end, after the round of mask 1
 abbrev pub threeEnd : ℕ → Walk
-threeEnd family = record { mask = 1; marks = noMarks; rounds = 2; family = family; level = 1; slot = 15; count = 3; ending = complete }
+threeEnd family = record { mask = 1; marks = noMarks levels; rounds = 2; family = family; level = 1; slot = 15; count = 3; ending = complete }
 
 pub record FieldOfThree : Type 0 where
   pub ends : (family : ℕ) (tags : List Tag) (list room : List ℕ) → AllObey tags → 64 ≤ length list → 14 ≤ length room

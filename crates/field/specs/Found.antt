@@ -5,7 +5,7 @@ use mathlib.Core.List.{List}
 use mathlib.Core.Path.{_≡_}
 use lib.ListN.{length, take}
 use Rattle.tails.specs.Sum.{times}
-use Rattle.tails.specs.Tails.{sharedTails}
+use Rattle.tails.specs.Tails.{sharedTailsTo}
 use Rattle.walk.specs.declared.Walk.{Walk}
 use Rattle.walk.specs.Record.{complete, twins, full, isRunning}
 
@@ -17,8 +17,9 @@ Different us = (u : ℕ) → times u us ≤ 1
 unfoldable pub listed : Walk → List ℕ → List ℕ
 listed w list = take (w .count) list
 
--- the walk w and its list at the end; us are the UIDs of the cards that answer its family
-pub record Found (us : List ℕ) (w : Walk) (list : List ℕ) : Type 0 where
+-- the walk w and its list at the end; us are the UIDs of the cards that answer its family. The tails that count have at most so many digits:
+-- 15 below, in `Found`
+pub record FoundIn (digits : ℕ) (us : List ℕ) (w : Walk) (list : List ℕ) : Type 0 where
   pub ends : isRunning w ≡ false
   -- "The walk ends complete exactly if at most 64 cards answer its family and no two of these share a UID."
   pub few : w .ending ≡ complete → length us ≤ 64
@@ -28,9 +29,9 @@ pub record Found (us : List ℕ) (w : Walk) (list : List ℕ) : Type 0 where
   pub each-once : w .ending ≡ complete → (u : ℕ) → times u (listed w list) ≡ times u us
   pub count : w .ending ≡ complete → w .count ≡ length us
   -- "the round count is exactly one more than the number of tails of 1 to 15 digits, .., that two or more of them share"
-  pub rounds : w .ending ≡ complete → w .rounds ≡ 1 + sharedTails us
+  pub rounds : w .ending ≡ complete → w .rounds ≡ 1 + sharedTailsTo digits us
   -- 01: "For n cards with different UIDs rounds are at most 1 + 15 × (n / 2 rounded down)"
-  pub rounds-most : w .ending ≡ complete → w .rounds ≤ 1 + 15 * (length us / 2)
+  pub rounds-most : w .ending ≡ complete → w .rounds ≤ 1 + digits * (length us / 2)
   -- 01: "With at most 64 answering, two alike end in twins, always."
   pub alike : length us ≤ 64 → (Different us → ⊥) → w .ending ≡ twins
   -- 01: "Above 64 the ending is twins or full"
@@ -41,3 +42,7 @@ pub record Found (us : List ℕ) (w : Walk) (list : List ℕ) : Type 0 where
   pub full-many : w .ending ≡ full → 64 < length us
   -- 01: "overrun needs false replies": the endings are complete, twins and full
   pub no-overrun : w .ending ≤ full
+
+-- "tails of 1 to 15 digits", "1 + 15 × (n / 2 rounded down)"
+abbrev pub Found : List ℕ → Walk → List ℕ → Type 0
+Found us w list = FoundIn 15 us w list

@@ -2,7 +2,7 @@
 use Prim.Native.Nat.{ℕ, zero, suc}
 use mathlib.Core.List.{List}
 use Rattle.walk.specs.declared.Walk.{Walk}
-use Rattle.walk.specs.Record.{started}
+use Rattle.walk.specs.Record.{startedOf, started}
 use Rattle.walk.specs.Hear.{Hearing, hearing}
 use Rattle.walk.specs.Ask.{Asking, asking}
 use Rattle.play.specs.Life.{Tag}
@@ -26,6 +26,10 @@ slotPlayed p =
 unfoldable pub playedFor : ℕ → Play → Play
 playedFor zero p = p
 playedFor (suc n) p = playedFor n (slotPlayed p)
+
+-- a fresh walk of so many levels
+unfoldable pub freshOf : ℕ → ℕ → List ℕ → List ℕ → List Tag → Play
+freshOf levels family list room tags = record { walk = startedOf levels family; list = list; room = room; tags = tags }
 
 -- "a fresh walk"
 unfoldable pub fresh : ℕ → List ℕ → List ℕ → List Tag → Play

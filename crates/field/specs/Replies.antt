@@ -26,16 +26,20 @@ unfoldable pub heardAll : List Arrival → Walked → Walked
 heardAll [] p = p
 heardAll (a ∷ rest) p = heardAll rest (heardIn p a)
 
--- what holds after n slots, whatever arrived in them
-pub record Holds (n : ℕ) (p : Walked) : Type 0 where
+-- what holds after n slots, whatever arrived in them, of a walk that may hear so many
+pub record HoldsIn (most n : ℕ) (p : Walked) : Type 0 where
   -- number 10 accepts the record
   pub accepted : isAccepted (p .walk) ≡ true
   -- "No UID is listed twice"
   pub once : (u : ℕ) → times u (listed (p .walk) (p .list)) ≤ 1
   -- "The round count stands in the walk and equals the rounds of the definition.": sixteen slots each
   pub counted : isRunning (p .walk) ≡ true → 16 * p .walk .rounds + p .walk .slot ≡ 16 + n
-  -- the walk has ended after 16 × 481 slots
-  pub ends : 16 * 481 ≤ n → isRunning (p .walk) ≡ false
+  -- the walk has ended after these
+  pub ends : most ≤ n → isRunning (p .walk) ≡ false
+
+-- the walk has ended after 16 × 481 slots
+abbrev pub Holds : ℕ → Walked → Type 0
+Holds n p = HoldsIn (16 * 481) n p
 
 unfoldable pub anyReplies : Type 0
 anyReplies =

@@ -14,10 +14,13 @@ use Rattle.field.specs.Found.{Found}
 use Rattle.field.specs.Demand.{AllObey, none, more, cards, Demand3, demand3}
 use Rattle.field.proofs.InStep.{byte-served}
 use Rattle.field.proofs.Stages.{stage-fresh}
-use Rattle.field.proofs.Demand3.{uids-fit, walk-of-a-field}
+use Rattle.field.proofs.Demand3.{walk-of-a-field}
+use Rattle.field.proofs.Suited.{uids-suit}
 use Rattle.row.specs.declared.Desk.{Desk}
 use Rattle.row.specs.Row.{Played, cardOf, cardsOf, noBytes, playedFor}
-use Rattle.row.specs.Play.{noUids, freshDesk, mostSlots, ended}
+use Rattle.walk.specs.Marks.{levels}
+use Rattle.walk.specs.Record.{mostRounds, mostSlots}
+use Rattle.row.specs.Play.{noUids, freshDesk, ended}
 use Rattle.meaning.specs.Bench.{Meaning, meaning}
 use Rattle.meaning.proofs.SlotsAlike.{benchOf, played-alike}
 
@@ -76,7 +79,7 @@ bench-is-a-field us h n =
     let tags : List Tag = tagsOf us in
     let obey : AllObey tags = tags-obey us h in
     ap (playedFor n) (bench-fresh us)
-    ∙ played-alike 256 tags n 0 (freshField us) obey (uids-fit 256 tags obey)
+    ∙ played-alike 256 tags n 0 (freshField us) obey (uids-suit 256 tags obey)
     (stage-fresh 256 tags (answering 256 tags) noUids noBytes obey (omega arith) (omega arith))
 
 -- ---- what demand 3 says of it
@@ -88,7 +91,7 @@ field-demand us h =
     (walk-of-a-field 256 (tagsOf us) noUids noBytes (tags-obey us h) (omega arith) (omega arith))
 
 pub bench-meets-demand3 : meaning
-unfolding meaning Meaning ended mostSlots benchOf
+unfolding meaning Meaning ended mostSlots mostRounds levels benchOf
 bench-meets-demand3 us h =
     subst (λ (d : Desk). Found us (d .walk) (d .list)) (sym (ap (λ (q : Played). q .desk) (bench-is-a-field us h (16 * 481))))
     (field-demand us h .found)

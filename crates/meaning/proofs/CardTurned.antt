@@ -20,10 +20,11 @@ use Rattle.requests.proofs.Rules.{inventory-frame}
 use Rattle.walk.specs.declared.Walk.{Walk}
 use Rattle.walk.specs.Record.{hasFamily, isAccepted, isRunning}
 use Rattle.walk.specs.Ask.{Asking, requestHead, requestBody, request, sent, roomAfter}
+use Rattle.walk.proofs.Limits.{Accepted, accepted-of-is-accepted}
 use Rattle.field.proofs.InTime.{inStep, calls}
 use Rattle.field.proofs.Requested.{request-decided}
 use Rattle.field.proofs.MarkHeard.{mark-heard}
-use Rattle.field.proofs.RowAsked.{Fits, accepted-fits, walk-asked, sent-request, sent-mark}
+use Rattle.field.proofs.RowAsked.{walk-asked, sent-request, sent-mark}
 use Rattle.row.specs.Row.{noBytes, sentOf, heardBy, turnBy, turnOf}
 
 -- what becomes of a card c of the start
@@ -44,12 +45,12 @@ heard-cleared : (c card : Card) (frame : List ℕ) → cleared card ≡ cleared 
 unfolding heardInventory
 heard-cleared c card frame e = rw e
 
-request-heard : (c card : Card) (w : Walk) → Fits w → w .slot ≡ 0 → cleared card ≡ cleared c → heardInventory card (request w) ≡ stepped w c
+request-heard : (c card : Card) (w : Walk) → Accepted w → w .level < 16 → w .slot ≡ 0 → cleared card ≡ cleared c → heardInventory card (request w) ≡ stepped w c
 unfolding stepped
-request-heard c card w fits e same =
+request-heard c card w facts level e same =
     heard-cleared c card (request w) same
     ∙ ap (λ (d : Deed). turn (d .card) (d .reply))
-    (sym (inventory-frame c [] (request w) (request-flags w)) ∙ request-decided c [] w (fits .level) (fits .mask) e)
+    (sym (inventory-frame c [] (request w) (request-flags w)) ∙ request-decided c [] w level (facts .mask) e)
 
 -- ---- what is sent
 
@@ -57,17 +58,16 @@ turn-asked : (w : Walk) (c : Card) → isAccepted w ≡ true → turnOf w c ≡ 
 unfolding turnOf turnBy sentOf noBytes
 turn-asked w c e = ap (λ (a : Asking). heardBy (a .send) (a .room) c) (walk-asked w noBytes e (omega arith))
 
-pub request-turned : (w : Walk) (c card : Card) → isAccepted w ≡ true → isRunning w ≡ true → w .slot ≡ 0 → cleared card ≡ cleared c
-    → turnOf w card ≡ stepped w c
+pub request-turned : (w : Walk) (c card : Card) → isAccepted w ≡ true → w .level < 16 → isRunning w ≡ true → w .slot ≡ 0
+    → cleared card ≡ cleared c → turnOf w card ≡ stepped w c
 unfolding heardBy roomAfter
-request-turned w c card accepted running e same =
+request-turned w c card accepted level running e same =
     turn-asked w card accepted
-    ∙ rw (sent-request w running e, take-over (request w) noBytes) (request-heard c card w (accepted-fits w accepted) e same)
+    ∙ rw (sent-request w running e, take-over (request w) noBytes) (request-heard c card w (accepted-of-is-accepted w accepted) level e same)
 
 pub mark-turned : (w : Walk) (s : ℕ) (c card : Card) → isAccepted w ≡ true → isRunning w ≡ true → w .slot ≡ suc s
     → card ≡ inStep (w .family) (w .level) (w .mask) s c → turnOf w card ≡ stepped w c
 unfolding heardBy stepped
 mark-turned w s c card accepted running e same =
-    let fits : Fits w = accepted-fits w accepted in
-    let below : s < 15 = omega (arith, fits .slot) in
+    let below : s < 15 = omega (arith, e, accepted-of-is-accepted w accepted .slot) in
     turn-asked w card accepted ∙ rw (sent-mark w s running e) (ap marked same ∙ mark-heard (w .family) w s c e below)

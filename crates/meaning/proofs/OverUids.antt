@@ -8,6 +8,7 @@ use mathlib.Core.List.{List, [], _∷_, _++_}
 use lib.Dec.{eqb}
 use lib.ListN.{length, getD}
 use Rattle.walk.specs.declared.Walk.{Walk}
+use Rattle.walk.specs.Marks.{levels}
 use Rattle.walk.specs.Record.{isAccepted, isRunning, started}
 use Rattle.field.specs.Field.{Tag, answering}
 use Rattle.field.specs.Played.{Play, fresh}
@@ -15,10 +16,11 @@ use Rattle.field.specs.Played as field
 use Rattle.field.specs.Demand.{AllObey, cards}
 use Rattle.field.proofs.Called.{called}
 use Rattle.field.proofs.InTime.{Both, Before}
-use Rattle.field.proofs.Accepted.{walks-accepted}
+use Rattle.field.proofs.Accepted.{walks-accepted, walks-level}
+use Rattle.field.proofs.Next.{Suits}
 use Rattle.field.proofs.Stages.{Stage, hears, rests, running-of, stage-fresh, stage-slot}
 use Rattle.field.proofs.Stood.{Stand, stood, stoodFor, standOf, played-stood}
-use Rattle.field.proofs.Demand3.{uids-fit}
+use Rattle.field.proofs.Suited.{uids-suit}
 use Rattle.row.specs.Row.{Played, noBytes, stillAir, rowAir, slotPlayed, playedFor, cardsOf}
 use Rattle.row.specs.Play.{noUids, freshDesk}
 use Rattle.picture.specs.Drawn.{sign, lineHead, slotDrawn, drawnFor}
@@ -42,38 +44,39 @@ overUids us (suc n) s =
 
 -- ---- one slot
 
-hears-signed : (family : ℕ) (tags : List Tag) (p : Play) → AllObey tags → isAccepted (p .walk) ≡ true → isRunning (p .walk) ≡ true
-    → p .walk .family ≡ family → Before family (p .walk .level) (p .walk .mask) (p .walk .slot) tags (p .tags)
+hears-signed : (family : ℕ) (tags : List Tag) (p : Play) → AllObey tags → isAccepted (p .walk) ≡ true → p .walk .level < 16
+    → isRunning (p .walk) ≡ true → p .walk .family ≡ family → Before family (p .walk .level) (p .walk .mask) (p .walk .slot) tags (p .tags)
     → sign (rowAir (p .walk) stillAir (cards (p .tags))) ≡ signFor (length (called (answering family tags) (p .walk)))
-hears-signed family tags p obey accepted running f before =
+hears-signed family tags p obey accepted level running f before =
     let w : Walk = p .walk in
     let turned : Both (Turned w) tags (p .tags) =
-    row-turned w tags (p .tags) obey accepted running (subst⁻¹ (λ (x : ℕ). Before x (w .level) (w .mask) (w .slot) tags (p .tags)) f before) in
+    row-turned w tags (p .tags) obey accepted level running (subst⁻¹ (λ (x : ℕ). Before x (w .level) (w .mask) (w .slot) tags (p .tags)) f before) in
     sign-called w tags (p .tags) accepted turned ∙ ap (λ (x : ℕ). signFor (length (called (answering x tags) w))) f
 
 -- the bench's slot and the UIDs' are a field's
-module _ (family : ℕ) (tags : List Tag) (obey : AllObey tags) (fit : (i : ℕ) → getD (answering family tags) i 0 < 16 ^ 16) where
+module _ (family : ℕ) (tags : List Tag) (obey : AllObey tags) (fit : Suits levels (answering family tags)) where
   abbrev us : List ℕ
   us = answering family tags
 
-  slot-alike : (m : ℕ) (p : Play) → Stage family tags us m p → slotPlayed (benchOf p) ≡ benchOf (field.slotPlayed p)
+  slot-alike : (m : ℕ) (p : Play) → Stage levels family tags us m p → slotPlayed (benchOf p) ≡ benchOf (field.slotPlayed p)
   unfolding playedFor field.playedFor
   slot-alike m p s = played-alike family tags 1 m p obey fit s
 
-  slot-stands : (m : ℕ) (p : Play) → Stage family tags us m p → standOf (field.slotPlayed p) ≡ stood us (standOf p)
+  slot-stands : (m : ℕ) (p : Play) → Stage levels family tags us m p → standOf (field.slotPlayed p) ≡ stood us (standOf p)
   unfolding field.playedFor stoodFor
   slot-stands m p s = played-stood family tags 1 m p obey fit s
 
-  more-drawn : (n m : ℕ) (p : Play) → Stage family tags us m p
+  more-drawn : (n m : ℕ) (p : Play) → Stage levels family tags us m p
       → drawnFor n (benchOf (field.slotPlayed p)) ≡ overUids us n (standOf (field.slotPlayed p))
       → drawnFor (suc n) (benchOf p) ≡ overUids us (suc n) (standOf p)
   unfolding drawnFor overUids signed slotDrawn benchOf
   more-drawn n m p (hears g h e f room count row) later =
       let w : Walk = p .walk in
-      let s : Stage family tags us m p = hears g h e f room count row in
+      let s : Stage levels family tags us m p = hears g h e f room count row in
       let running : isRunning w ≡ true = running-of w e in
       let is : sign (rowAir w stillAir (cards (p .tags))) ≡ signFor (length (called us w)) =
-      hears-signed family tags p obey (walks-accepted w (p .list) (w .slot) h (g .walks)) running f row in
+      hears-signed family tags p obey (walks-accepted w (p .list) (w .slot) h (g .walks)) (walks-level w (p .list) (w .slot) (fit .most) (g .walks))
+      running f row in
       rw running (
       ap (λ (q : Played). signed w (sign (rowAir w stillAir (cards (p .tags)))) (q .desk .walk) ++ drawnFor n q) (slot-alike m p s)
       ∙ ap (λ (l : List ℕ). signed w (sign (rowAir w stillAir (cards (p .tags)))) (field.slotPlayed p .walk) ++ l) later
@@ -81,7 +84,7 @@ module _ (family : ℕ) (tags : List Tag) (obey : AllObey tags) (fit : (i : ℕ)
       )
   more-drawn n m p (rests a r v row) later = rw r
 
-  pub drawn-over : (n m : ℕ) (p : Play) → Stage family tags us m p → drawnFor n (benchOf p) ≡ overUids us n (standOf p)
+  pub drawn-over : (n m : ℕ) (p : Play) → Stage levels family tags us m p → drawnFor n (benchOf p) ≡ overUids us n (standOf p)
   unfolding drawnFor overUids
   drawn-over zero m p s = refl
   drawn-over (suc n) m p s =
@@ -100,6 +103,6 @@ bench-drawn us h n =
     let tags : List Tag = tagsOf us in
     let obey : AllObey tags = tags-obey us h in
     ap (drawnFor n) (bench-start us h)
-    ∙ drawn-over 256 tags obey (uids-fit 256 tags obey) n 0 (freshField us)
+    ∙ drawn-over 256 tags obey (uids-suit 256 tags obey) n 0 (freshField us)
     (stage-fresh 256 tags (answering 256 tags) noUids noBytes obey (omega arith) (omega arith))
     ∙ ap (λ (vs : List ℕ). overUids vs n (record { walk = started 256; list = noUids })) (tags-answer us)

@@ -2,7 +2,8 @@
 -- By induction over the row, from what one card does. Assumes nothing.
 use mathlib.Core.Path.{_≡_, refl, sym, ap, ap₂, _∙_}
 use mathlib.Core.Bool.{Bool, true, false, cond}
-use Prim.Native.Nat.{ℕ, zero, suc}
+use Prim.Native.Nat.{ℕ, zero, suc, _<_}
+use native.Mathlib.Omega.{arith}
 use mathlib.Core.List.{List, [], _∷_}
 use Rattle.card.specs.declared.Card.{Card}
 use Rattle.card.specs.declared.Turn.{Turn}
@@ -14,6 +15,7 @@ use Rattle.walk.specs.declared.Walk.{Walk}
 use Rattle.walk.specs.declared.Kind.the-variants as kind
 use Rattle.walk.specs.Record.{maskLength, isAccepted, isRunning}
 use Rattle.walk.specs.Hear.{judged}
+use Rattle.walk.proofs.Limits.{Accepted, accepted-of-is-accepted}
 use Rattle.field.specs.Field.{Tag, answers, answering, arrives}
 use Rattle.field.specs.Demand.{AllObey, cardLeft, cardsLeft, cards}
 use Rattle.field.proofs.Called.{called, slotOf}
@@ -21,7 +23,6 @@ use Rattle.field.proofs.InTime.{inStep, calls, Both, none, more, Before}
 use Rattle.field.proofs.Reply.{message, message-bytes}
 use Rattle.field.proofs.Callers.{callers, messages, uids, AllFit, callers-fit, callers-judged, called-callers}
 use Rattle.field.proofs.RowHeard.{both-map}
-use Rattle.field.proofs.RowAsked.{Fits, accepted-fits}
 use Rattle.row.specs.declared.Air.{Air}
 use Rattle.row.specs.Row.{turnOf, stillAir, crowded, airWith, rowAir, rowAfter, airKind, airBytes}
 use Rattle.meaning.proofs.CardTurned.{stepped, request-turned, mark-turned}
@@ -30,13 +31,13 @@ use Rattle.meaning.proofs.CardTurned.{stepped, request-turned, mark-tur
 unfoldable pub Turned : Walk → Tag → Tag → Type 0
 Turned w t₀ t = turnOf w (t .card) ≡ stepped w (t₀ .card)
 
-pub row-turned : (w : Walk) (ts₀ ts : List Tag) → AllObey ts₀ → isAccepted w ≡ true → isRunning w ≡ true
+pub row-turned : (w : Walk) (ts₀ ts : List Tag) → AllObey ts₀ → isAccepted w ≡ true → w .level < 16 → isRunning w ≡ true
     → Before (w .family) (w .level) (w .mask) (w .slot) ts₀ ts → Both (Turned w) ts₀ ts
 unfolding Before Turned
-row-turned w ts₀ ts obey accepted running before = go (w .slot) refl before
+row-turned w ts₀ ts obey accepted level running before = go (w .slot) refl before
   where
     go : (s : ℕ) → w .slot ≡ s → Before (w .family) (w .level) (w .mask) s ts₀ ts → Both (Turned w) ts₀ ts
-    go zero e b = both-map ts₀ ts obey (λ t₀ t o f. request-turned w (t₀ .card) (t .card) accepted running e (f .card)) b
+    go zero e b = both-map ts₀ ts obey (λ t₀ t o f. request-turned w (t₀ .card) (t .card) accepted level running e (f .card)) b
     go (suc s) e b = both-map ts₀ ts obey (λ t₀ t o a. mark-turned w s (t₀ .card) (t .card) accepted running e (a .card)) b
 
 -- ---- what becomes of the cards
@@ -114,7 +115,7 @@ air-judged w (c ∷ d ∷ cs) fit =
 pub row-judged : (w : Walk) (ts₀ ts : List Tag) → AllObey ts₀ → isAccepted w ≡ true → Both (Turned w) ts₀ ts
     → judged w (airKind (rowAir w stillAir (cards ts))) (airBytes (rowAir w stillAir (cards ts))) ≡ slotOf (called (answering (w .family) ts₀) w)
 row-judged w ts₀ ts obey accepted hears =
-    let fits : Fits w = accepted-fits w accepted in
+    let facts : Accepted w = accepted-of-is-accepted w accepted in
     rw (row-air w stillAir ts₀ ts hears)
     (air-judged w (callers (w .family) w ts₀) (callers-fit (w .family) w ts₀ obey)
-    ∙ ap slotOf (sym (called-callers (w .family) w ts₀ (fits .mask) (fits .slot))))
+    ∙ ap slotOf (sym (called-callers (w .family) w ts₀ (facts .mask) (omega (arith, facts .slot)))))

@@ -8,7 +8,9 @@ use mathlib.Core.List.{List}
 use lib.Dec.{T}
 use lib.ListN.{length, getD}
 use Rattle.walk.specs.declared.Walk.{Walk}
+use Rattle.walk.specs.Marks.{levels}
 use Rattle.walk.specs.Record.{isAccepted, isRunning}
+use Rattle.walk.proofs.Limits.{Accepted, accepted-of-is-accepted}
 use Rattle.field.specs.Field.{Tag, answering}
 use Rattle.field.specs.Played.{Play}
 use Rattle.field.specs.Played as field
@@ -16,10 +18,9 @@ use Rattle.field.specs.Demand.{AllObey, cards}
 use Rattle.field.proofs.Called.{called}
 use Rattle.field.proofs.InTime.{Both, Before}
 use Rattle.field.proofs.Callers.{called-callers}
-use Rattle.field.proofs.RowAsked.{Fits, accepted-fits}
-use Rattle.field.proofs.Accepted.{walks-accepted}
+use Rattle.field.proofs.Accepted.{walks-accepted, walks-level}
 use Rattle.field.proofs.Stages.{Stage, hears, rests, running-of, stage-fresh, stage-for}
-use Rattle.field.proofs.Demand3.{uids-fit}
+use Rattle.field.proofs.Suited.{uids-suit}
 use Rattle.row.specs.Row.{Played, noBytes, stillAir, rowAir}
 use Rattle.row.specs.Play.{noUids}
 use Rattle.picture.specs.Drawn.{sign}
@@ -34,37 +35,39 @@ use Rattle.meaning.proofs.Answers.{sign-callers, sign-slot}
 pub sign-called : (w : Walk) (tags ts : List Tag) → isAccepted w ≡ true → Both (Turned w) tags ts
     → sign (rowAir w stillAir (cards ts)) ≡ signFor (length (called (answering (w .family) tags) w))
 sign-called w tags ts accepted turned =
-    let fits : Fits w = accepted-fits w accepted in
-    sign-callers w tags ts turned ∙ ap (λ (us : List ℕ). signFor (length us)) (sym (called-callers (w .family) w tags (fits .mask) (fits .slot)))
+    let facts : Accepted w = accepted-of-is-accepted w accepted in
+    sign-callers w tags ts turned ∙ ap (λ (us : List ℕ). signFor (length us)) (sym (called-callers (w .family) w tags (facts .mask) (omega (arith, facts .slot))))
 
-slot-signs : (tags : List Tag) (p : Play) → AllObey tags → isAccepted (p .walk) ≡ true → isRunning (p .walk) ≡ true
+slot-signs : (tags : List Tag) (p : Play) → AllObey tags → isAccepted (p .walk) ≡ true → p .walk .level < 16 → isRunning (p .walk) ≡ true
     → Before (p .walk .family) (p .walk .level) (p .walk .mask) (p .walk .slot) tags (p .tags) → Signs (answering (p .walk .family) tags) (benchOf p)
 unfolding benchOf airAt calledAt called
-slot-signs tags p obey accepted running before =
+slot-signs tags p obey accepted level running before =
     let w : Walk = p .walk in
-    let turned : Both (Turned w) tags (p .tags) = row-turned w tags (p .tags) obey accepted running before in
+    let turned : Both (Turned w) tags (p .tags) = row-turned w tags (p .tags) obey accepted level running before in
     let us : List ℕ = called (answering (w .family) tags) w in
     let counts : sign (rowAir w stillAir (cards (p .tags))) ≡ signFor (length us) = sign-called w tags (p .tags) accepted turned in
     record { walk = counts ∙ sym (sign-slot us) ∙ ap signOf (sym (row-judged w tags (p .tags) obey accepted turned)); uids = counts }
 
 -- ---- after any number of slots
 
-stage-signs : (tags : List Tag) (us : List ℕ) (n : ℕ) (p : Play) → AllObey tags → Stage 256 tags us n p → isRunning (p .walk) ≡ true
+stage-signs : (tags : List Tag) (us : List ℕ) (n : ℕ) (p : Play) → AllObey tags → Stage levels 256 tags us n p → isRunning (p .walk) ≡ true
     → Signs (answering 256 tags) (benchOf p)
+unfolding levels
 stage-signs tags us n p obey (hears g h e f room count row) running =
     let w : Walk = p .walk in
     subst (λ (x : ℕ). Signs (answering x tags) (benchOf p)) f
-    (slot-signs tags p obey (walks-accepted w (p .list) (w .slot) h (g .walks)) (running-of w e)
+    (slot-signs tags p obey (walks-accepted w (p .list) (w .slot) h (g .walks)) (walks-level w (p .list) (w .slot) (omega arith) (g .walks))
+    (running-of w e)
     (subst⁻¹ (λ (x : ℕ). Before x (w .level) (w .mask) (w .slot) tags (p .tags)) f row))
 stage-signs tags us n p obey (rests a r v row) running = absurd (subst T (sym running ∙ r) tt)
 
 field-stage : (us : List ℕ) → ((i : ℕ) → getD us i 0 < 2 ^ 64) → (n : ℕ)
-    → Stage 256 (tagsOf us) (answering 256 (tagsOf us)) (0 + n) (field.playedFor n (freshField us))
+    → Stage levels 256 (tagsOf us) (answering 256 (tagsOf us)) (0 + n) (field.playedFor n (freshField us))
 unfolding freshField noUids noBytes
 field-stage us h n =
     let tags : List Tag = tagsOf us in
     let obey : AllObey tags = tags-obey us h in
-    stage-for 256 tags n 0 (freshField us) obey (uids-fit 256 tags obey)
+    stage-for 256 tags n 0 (freshField us) obey (uids-suit 256 tags obey)
     (stage-fresh 256 tags (answering 256 tags) noUids noBytes obey (omega arith) (omega arith))
 
 field-signs : (us : List ℕ) → ((i : ℕ) → getD us i 0 < 2 ^ 64) → (n : ℕ) → isRunning (benchOf (field.playedFor n (freshField us)) .desk .walk) ≡ true

@@ -2,14 +2,16 @@
 -- By the slot that the UIDs bring to both. Assumes nothing.
 use mathlib.Core.Path.{_≡_, refl, sym, ap, ap₂, subst⁻¹, _∙_}
 use mathlib.Core.Bool.{true, false}
-use Prim.Native.Nat.{ℕ, zero, suc, _^_, _≤_, _<_}
+use Prim.Native.Nat.{ℕ, zero, suc, _≤_, _<_}
+use native.Mathlib.Omega.{arith}
 use mathlib.Core.List.{List, [], _∷_}
-use lib.ListN.{length, getD}
+use lib.ListN.{length}
 use Rattle.card.specs.declared.Card.{Card}
 use Rattle.card.specs.declared.Turn.{Turn}
 use Rattle.card.specs.Inventory.{still}
 use Rattle.walk.specs.declared.Walk.{Walk}
 use Rattle.walk.specs.declared.Slot.{Slot}
+use Rattle.walk.specs.Marks.{levels}
 use Rattle.walk.specs.Record.{isAccepted, isRunning}
 use Rattle.walk.specs.Hear.{judged, walkAfter, listAfter}
 use Rattle.walk.specs.Ask.{Asking}
@@ -22,7 +24,8 @@ use Rattle.field.proofs.Called.{called, slotOf}
 use Rattle.field.proofs.InTime.{Both, Before}
 use Rattle.field.proofs.WalkServed.{ended-asked}
 use Rattle.field.proofs.PlayedSlot.{SlotPlayed, slot-played, ended-played}
-use Rattle.field.proofs.Accepted.{walks-accepted}
+use Rattle.field.proofs.Accepted.{walks-accepted, walks-level}
+use Rattle.field.proofs.Next.{Suits}
 use Rattle.field.proofs.Stages.{Stage, hears, rests, running-of, stage-slot}
 use Rattle.field.proofs.Demand3.{cards-of}
 use Rattle.row.specs.declared.Air.{Air}
@@ -47,16 +50,16 @@ desk-heard : (w : Walk) (list : List ℕ) (air : Air) (slot : Slot) → isAccept
 unfolding deskAfter
 desk-heard w list air slot accepted running places heard = rw (walk-heard w (airKind air) (airBytes air) list accepted running places, heard)
 
-hears-alike : (tags : List Tag) (p : Play) → AllObey tags → isAccepted (p .walk) ≡ true → isRunning (p .walk) ≡ true → 64 ≤ length (p .list)
-    → 14 ≤ length (p .room) → Before (p .walk .family) (p .walk .level) (p .walk .mask) (p .walk .slot) tags (p .tags)
+hears-alike : (tags : List Tag) (p : Play) → AllObey tags → isAccepted (p .walk) ≡ true → p .walk .level < 16 → isRunning (p .walk) ≡ true
+    → 64 ≤ length (p .list) → 14 ≤ length (p .room) → Before (p .walk .family) (p .walk .level) (p .walk .mask) (p .walk .slot) tags (p .tags)
     → slotPlayed (benchOf p) ≡ benchOf (field.slotPlayed p)
 unfolding slotPlayed benchOf
-hears-alike tags p obey accepted running places room before =
+hears-alike tags p obey accepted level running places room before =
     let w : Walk = p .walk in
     let q : Play = field.slotPlayed p in
     let slot : Slot = slotOf (called (answering (w .family) tags) w) in
-    let played : SlotPlayed (w .family) tags p q = slot-played (w .family) tags p obey accepted running refl places room before in
-    let turned : Both (Turned w) tags (p .tags) = row-turned w tags (p .tags) obey accepted running before in
+    let played : SlotPlayed (w .family) tags p q = slot-played (w .family) tags p obey accepted level running refl places room before in
+    let turned : Both (Turned w) tags (p .tags) = row-turned w tags (p .tags) obey accepted level running before in
     ap₂ playedOf
     (desk-heard w (p .list) (rowAir w stillAir (cards (p .tags))) slot accepted running places (row-judged w tags (p .tags) obey accepted turned)
     ∙ ap₂ deskOf (sym (played .walk)) (sym (played .list)))
@@ -86,16 +89,17 @@ rests-alike p accepted ended =
 
 -- ---- slot after slot
 
-slots-alike : (family : ℕ) (tags : List Tag) (us : List ℕ) (n : ℕ) (p : Play) → AllObey tags → Stage family tags us n p
+slots-alike : (family : ℕ) (tags : List Tag) (us : List ℕ) (n : ℕ) (p : Play) → AllObey tags → Stage levels family tags us n p
     → slotPlayed (benchOf p) ≡ benchOf (field.slotPlayed p)
+unfolding levels
 slots-alike family tags us n p obey (hears g h e f room count row) =
     let w : Walk = p .walk in
-    hears-alike tags p obey (walks-accepted w (p .list) (w .slot) h (g .walks)) (running-of w e) (g .walks .places-fit) room
-    (subst⁻¹ (λ (x : ℕ). Before x (w .level) (w .mask) (w .slot) tags (p .tags)) f row)
+    hears-alike tags p obey (walks-accepted w (p .list) (w .slot) h (g .walks)) (walks-level w (p .list) (w .slot) (omega arith) (g .walks))
+    (running-of w e) (g .walks .places-fit) room (subst⁻¹ (λ (x : ℕ). Before x (w .level) (w .mask) (w .slot) tags (p .tags)) f row)
 slots-alike family tags us n p obey (rests a r v row) = rests-alike p a r ∙ sym (ap benchOf (ended-played p a r))
 
-pub played-alike : (family : ℕ) (tags : List Tag) (n m : ℕ) (p : Play) → AllObey tags → ((i : ℕ) → getD (answering family tags) i 0 < 16 ^ 16)
-    → Stage family tags (answering family tags) m p → playedFor n (benchOf p) ≡ benchOf (field.playedFor n p)
+pub played-alike : (family : ℕ) (tags : List Tag) (n m : ℕ) (p : Play) → AllObey tags → Suits levels (answering family tags)
+    → Stage levels family tags (answering family tags) m p → playedFor n (benchOf p) ≡ benchOf (field.playedFor n p)
 unfolding playedFor field.playedFor
 played-alike family tags zero m p obey fit s = refl
 played-alike family tags (suc n) m p obey fit s =

@@ -12,7 +12,9 @@ use Rattle.field.specs.Found.{listed}
 use Rattle.field.specs.Examples.{three, threeEnd}
 use Rattle.field.proofs.Examples.{field-of-three}
 use Rattle.row.specs.Row.{Played, noBytes}
-use Rattle.row.specs.Play.{noUids, mostSlots, ended}
+use Rattle.walk.specs.Marks.{levels}
+use Rattle.walk.specs.Record.{mostRounds, mostSlots}
+use Rattle.row.specs.Play.{noUids, ended}
 use Rattle.lines.specs.Examples.{threeLines}
 use Rattle.lines.proofs.Examples.{ThreeRead, three-fit, three-read, three-read-ended}
 use Rattle.hex.specs.Digits.{digit, hexDigits}
@@ -44,7 +46,7 @@ report-field =
     (field-of-three .lists 256 (tagsOf three) noUids noBytes (tags-obey three three-fit) (omega arith) (omega arith) (tags-answer three))
 
 report-ended : report (ended three) ≡ threePrinted
-unfolding ended mostSlots
+unfolding ended mostSlots mostRounds levels
 report-ended = ap (λ (q : Played). report (q .desk)) (bench-is-a-field three three-fit (16 * 481)) ∙ report-field
 
 -- ---- what is printed

@@ -13,7 +13,7 @@ use lib.Seq.{append-snoc}
 use Rattle.lent.specs.Puts.{PutsAt}
 use Rattle.walk.specs.declared.Walk.{Walk}
 use Rattle.walk.specs.Record.{maskLength, isRunning, isAccepted}
-use Rattle.walk.proofs.Limits.{Accepted, accepted-of-is-accepted}
+use Rattle.walk.proofs.Limits.{Accepted, accepted-of-is-accepted, level-most}
 use Rattle.row.specs.declared.Air.{Air}
 use Rattle.row.specs.declared.Desk.{Desk}
 use Rattle.picture.specs.Drawn.{sign, roundShown, tailShown, lineHead, slotDrawn, twinsLine}
@@ -53,11 +53,11 @@ pub record Above (w : Walk) : Type 0 where
   pub shifted : w .slot * 2 ^ 60 % 2 ^ 64 ≡ w .slot * 2 ^ 60
   pub fits : w .slot * 2 ^ 60 + w .mask < 2 ^ 64
 
-pub digit-above : (w : Walk) → isAccepted w ≡ true → Above w
+pub digit-above : (w : Walk) → isAccepted w ≡ true → length (w .marks) ≤ 16 → Above w
 unfolding maskLength
-digit-above w e =
+digit-above w e few =
     let a : Accepted w = accepted-of-is-accepted w e in
-    let most : 2 ^ (4 * w .level) ≤ 2 ^ 60 = pow-mono {i = 4 * w .level} {j = 60} (omega (arith, a .level)) in
+    let most : 2 ^ (4 * w .level) ≤ 2 ^ 60 = pow-mono {i = 4 * w .level} {j = 60} (omega (arith, level-most a few)) in
     let mask : w .mask < 2 ^ 60 = omega (arith, most, a .mask) in
     record { shifted = omega (arith, a .slot); fits = omega (arith, mask, a .slot) }
 
@@ -65,13 +65,13 @@ pub twins-none : (d : Desk) (at : ℕ) (e : List ℕ) → (d .walk .ending ≡ 2
 unfolding twinsLine
 twins-none d at e h = rw (ne-eqb (d .walk .ending) 2 h) (puts-none at e)
 
-pub twins-puts : (d : Desk) {at m r : ℕ} {tail e f g : List ℕ} → isAccepted (d .walk) ≡ true → d .walk .ending ≡ 2
+pub twins-puts : (d : Desk) {at m r : ℕ} {tail e f g : List ℕ} → isAccepted (d .walk) ≡ true → length (d .walk .marks) ≤ 16 → d .walk .ending ≡ 2
     → tail ≡ tailShown 16 (d .walk .slot * 2 ^ 60 % 2 ^ 64 + d .walk .mask) ++ 0x0a ∷ []
     → PutsAt at (0x74 ∷ 0x77 ∷ 0x69 ∷ 0x6e ∷ 0x73 ∷ 0x20 ∷ []) e m f → PutsAt m tail f r g → m + length tail ≤ length e
     → PutsAt at (twinsLine d) e r g
 unfolding twinsLine
-twins-puts d {at} {m} {r} {tail} {e} {f} {g} accepted h t p q k =
+twins-puts d {at} {m} {r} {tail} {e} {f} {g} accepted few h t p q k =
     let uid : tail ≡ tailShown 16 (d .walk .slot * 2 ^ 60 + d .walk .mask) ++ 0x0a ∷ [] =
-    t ∙ ap (λ (n : ℕ). tailShown 16 (n + d .walk .mask) ++ 0x0a ∷ []) (digit-above (d .walk) accepted .shifted) in
+    t ∙ ap (λ (n : ℕ). tailShown 16 (n + d .walk .mask) ++ 0x0a ∷ []) (digit-above (d .walk) accepted few .shifted) in
     rw (eq-eqb (d .walk .ending) 2 h)
     (subst (λ (l : List ℕ). PutsAt at (0x74 ∷ 0x77 ∷ 0x69 ∷ 0x6e ∷ 0x73 ∷ 0x20 ∷ l) e r g) uid (puts-then p q k))

@@ -9,11 +9,13 @@ use borrow.Author.Tests.{eqb-true, ne-eqb}
 use lib.Dec.{eqb}
 use lib.ListN.{length, length-append}
 use Rattle.walk.specs.declared.Walk.{Walk}
-use Rattle.walk.specs.Record.{isRunning, started}
-use Rattle.walk.proofs.Limits.{Accepted, accepted-of-is-accepted}
+use Rattle.walk.specs.Marks.{levels}
+use Rattle.walk.specs.Record.{mostSlots, isRunning, startedOf, started}
+use Rattle.walk.proofs.Limits.{Accepted, accepted-of-is-accepted, level-most, rounds-most}
 use Rattle.row.specs.declared.Air.{Air}
+use Rattle.row.specs.declared.Desk.{Desk}
 use Rattle.row.specs.Row.{Played, stillAir, rowAir, deskAfter, slotPlayed, cardsOf}
-use Rattle.row.specs.Play.{freshDesk, mostSlots, ended}
+use Rattle.row.specs.Play.{freshDesk, ended}
 use Rattle.picture.specs.Drawn.{lineHead, slotDrawn, drawnFor, heading, drawn}
 use Rattle.picture.proofs.Lengths.{length-head, length-twins}
 use Rattle.picture.proofs.Moves.{Moves, stops, steps, opens, Fit, fresh-fit, after-fit, desk-moves}
@@ -68,8 +70,19 @@ one-most : (b : Bool) → cond b 1 0 ≤ 1
 one-most true = omega arith
 one-most false = omega arith
 
+-- the numbers of a walk on a desk that fits
+record Within (w : Walk) : Type 0 where
+  level : w .level < 16
+  slot : w .slot ≤ 15
+  rounds : w .rounds ≤ 481
+
+within : (d : Desk) → Fit d → Within (d .walk)
+within d f =
+    let a : Accepted (d .walk) = accepted-of-is-accepted (d .walk) (f .accepted) in
+    record { level = level-most a (f .few); slot = a .slot; rounds = rounds-most a (f .few) }
+
 -- a slot, and the rest
-slot-most : (w next : Walk) (air : Air) (rest : ℕ) → Accepted w → Accepted next → Moves w next → (isRunning next ≡ false → rest ≡ 0)
+slot-most : (w next : Walk) (air : Air) (rest : ℕ) → Within w → Within next → Moves w next → (isRunning next ≡ false → rest ≡ 0)
     → rest + begun next ≤ 40 * (482 - next .rounds) → length (slotDrawn w air next) + rest + begun w ≤ 40 * (482 - w .rounds)
 slot-most w next air rest a b moves ends later = go (isRunning next) refl moves
   where
@@ -80,15 +93,15 @@ slot-most w next air rest a b moves ends later = go (isRunning next) refl moves
     one = one-most (eqb (w .slot) 15 || not (isRunning next))
 
     go : (t : Bool) → isRunning next ≡ t → Moves w next → length (slotDrawn w air next) + rest + begun w ≤ 40 * (482 - w .rounds)
-    go false e m = omega (arith, line, one, ends e, a .slot, a .last-round)
-    go true e (stops f) = omega (arith, line, one, ends f, a .slot, a .last-round)
+    go false e m = omega (arith, line, one, ends e, a .slot, a .rounds)
+    go true e (stops f) = omega (arith, line, one, ends f, a .slot, a .rounds)
     go true e (steps h f g) =
         let open-line : cond {A = ℕ} (eqb (w .slot) 15 || not (isRunning next)) 1 0 ≡ 0 = rw (ne-eqb (w .slot) 15 (λ z. absurd (omega arith)), e) refl in
         omega (arith, line, open-line, later, begun-next next (w .slot) f, g)
-    go true e (opens h f g) = omega (arith, line, one, h, later, g, b .last-round)
+    go true e (opens h f g) = omega (arith, line, one, h, later, g, b .rounds)
 
-none-most : (w : Walk) → Accepted w → 0 + begun w ≤ 40 * (482 - w .rounds)
-none-most w a = omega (arith, begun-most w, a .slot, a .last-round)
+none-most : (w : Walk) → Within w → 0 + begun w ≤ 40 * (482 - w .rounds)
+none-most w a = omega (arith, begun-most w, a .slot, a .rounds)
 
 -- one slot more to draw, from what is left after it
 more-most : (n : ℕ) (p : Played) → Fit (p .desk)
@@ -100,8 +113,8 @@ more-most n p f later = go (isRunning w) refl
     w : Walk
     w = p .desk .walk
 
-    a : Accepted w
-    a = accepted-of-is-accepted w (f .accepted)
+    a : Within w
+    a = within (p .desk) f
 
     air : Air
     air = rowAir w stillAir (p .row)
@@ -109,8 +122,8 @@ more-most n p f later = go (isRunning w) refl
     next : Walk
     next = deskAfter (p .desk) air .walk
 
-    b : Accepted next
-    b = accepted-of-is-accepted next (after-fit (p .desk) air f .accepted)
+    b : Within next
+    b = within (deskAfter (p .desk) air) (after-fit (p .desk) air f)
 
     go : (t : Bool) → isRunning w ≡ t → length (drawnFor (suc n) p) + begun w ≤ 40 * (482 - w .rounds)
     go false e = rw e (none-most w a)
@@ -121,14 +134,14 @@ more-most n p f later = go (isRunning w) refl
 
 left-most : (n : ℕ) (p : Played) → Fit (p .desk) → length (drawnFor n p) + begun (p .desk .walk) ≤ 40 * (482 - p .desk .walk .rounds)
 unfolding drawnFor slotPlayed
-left-most zero p f = none-most (p .desk .walk) (accepted-of-is-accepted (p .desk .walk) (f .accepted))
+left-most zero p f = none-most (p .desk .walk) (within (p .desk) f)
 left-most (suc n) p f = more-most n p f (left-most n (slotPlayed p) (after-fit (p .desk) (rowAir (p .desk .walk) stillAir (p .row)) f))
 
 -- ---- all that is drawn
 
-pub walk-most : (us : List ℕ) → length (drawnFor mostSlots (record { desk = freshDesk; row = cardsOf us })) ≤ 19240
-unfolding freshDesk started begun
-walk-most us = omega (arith, left-most mostSlots (record { desk = freshDesk; row = cardsOf us }) fresh-fit)
+pub walk-most : (us : List ℕ) → length (drawnFor (mostSlots levels) (record { desk = freshDesk; row = cardsOf us })) ≤ 19240
+unfolding freshDesk started startedOf begun
+walk-most us = omega (arith, left-most (mostSlots levels) (record { desk = freshDesk; row = cardsOf us }) fresh-fit)
 
 pub drawn-most : (us : List ℕ) → length (drawn us) ≤ 19303
 unfolding drawn heading

@@ -11,9 +11,10 @@ use lib.ListN.{length, length-set}
 use Rattle.walk.specs.declared.Walk.{Walk}
 use Rattle.walk.specs.declared.Slot.{Slot}
 use Rattle.walk.specs.declared.Slot.the-variants.{Silent, Clashed, Clean}
-use Rattle.walk.specs.Marks.{deepest}
-use Rattle.walk.specs.Record.{mostRounds, isRunning, isAccepted, remade, ended, counted, marked, atNextSlot, openedAt, opened}
+use Rattle.walk.specs.Marks.{levels, deepest}
+use Rattle.walk.specs.Record.{levelsOf, mostRounds, isRunning, isAccepted, remade, ended, counted, marked, atNextSlot, openedAt, opened, started}
 use Rattle.walk.specs.Hear.{Hearing, refusal, judged, endsAtOnce, noted, listNoted, turned, passed, walkAfter, listAfter, hearing}
+use Rattle.walk.proofs.LevelsStay.{levels-started, levels-heard}
 use Rattle.walk.proofs.Accepted.{started-accepted, heard-accepted}
 use Rattle.walk.proofs.HearWays.{walk-heard}
 use Rattle.row.specs.declared.Air.{Air}
@@ -34,7 +35,7 @@ module _ (w : Walk) (inside : w .slot ≤ 15) where
   turned-moves : (n : ℕ) → w .slot ≡ 15 → Moves w (turned w n)
   unfolding turned ended opened openedAt remade isRunning
   turned-moves zero last = stops refl
-  turned-moves (suc j) last = by-test (ltb (w .rounds) mostRounds) w _ _ (λ e. opens last refl refl) (λ e. stops refl)
+  turned-moves (suc j) last = by-test (ltb (w .rounds) (mostRounds (levelsOf w))) w _ _ (λ e. opens last refl refl) (λ e. stops refl)
 
   passed-moves : Moves w (passed w)
   unfolding passed atNextSlot remade
@@ -58,15 +59,16 @@ after-moves : (w : Walk) (slot : Slot) → w .slot ≤ 15 → Moves w (walkAfter
 unfolding walkAfter ended remade isRunning
 after-moves w slot h = by-test (eqb (endsAtOnce w slot) 0) w _ _ (λ e. noted-moves w slot h) (λ e. stops e)
 
--- ---- a desk whose walk is accepted, with a list of 64 places
+-- ---- a desk whose walk is accepted and has 16 levels at the most, with a list of 64 places
 
 pub record Fit (d : Desk) : Type 0 where
   pub accepted : isAccepted (d .walk) ≡ true
+  pub few : length (d .walk .marks) ≤ 16
   pub places : length (d .list) ≡ 64
 
 pub fresh-fit : Fit freshDesk
-unfolding freshDesk noUids
-fresh-fit = record { accepted = started-accepted 256; places = refl }
+unfolding freshDesk noUids started levels
+fresh-fit = record { accepted = started-accepted 256; few = omega (arith, levels-started levels 256); places = refl }
 
 length-listed : (w : Walk) (slot : Slot) (list : List ℕ) → length (listAfter w slot list) ≡ length list
 unfolding listAfter listNoted
@@ -88,6 +90,7 @@ after-fit d air f =
     let w : Walk = d .walk in
     record {
       accepted = heard-accepted w (airKind air) (airBytes air) (d .list) (f .accepted);
+      few = omega (arith, levels-heard w (airKind air) (airBytes air) (d .list), f .few);
       places = length-heard (eqb (refusal w (length (d .list))) 0) _ _ 64
           (length-listed w (judged w (airKind air) (airBytes air)) (d .list) ∙ f .places) (f .places);
     }

@@ -8,11 +8,12 @@ use lib.IntN.{ℤ, pos}
 use lib.ListN.{length, replicate}
 use Rattle.lent.specs.Lent.{over, refused}
 use Rattle.walk.specs.declared.Walk.{Walk}
-use Rattle.walk.specs.Record.{twins, isRunning}
+use Rattle.walk.specs.Marks.{levels}
+use Rattle.walk.specs.Record.{mostSlots, twins, isRunning}
 use Rattle.row.specs.declared.Air.{Air}
 use Rattle.row.specs.declared.Desk.{Desk}
 use Rattle.row.specs.Row.{Played, stillAir, rowAir, slotPlayed, cardsOf}
-use Rattle.row.specs.Play.{freshDesk, mostSlots, ended}
+use Rattle.row.specs.Play.{freshDesk, ended}
 use Rattle.lines.specs.Input.{badLine, uids}
 use Rattle.hex.specs.Digits.{hexDigits}
 use Rattle.rack.specs.Output.{decimal}
@@ -63,7 +64,7 @@ twinsLine d =
     []
 
 unfoldable pub drawn : List ℕ → List ℕ
-drawn us = heading ++ drawnFor mostSlots (record { desk = freshDesk; row = cardsOf us }) ++ twinsLine (ended us)
+drawn us = heading ++ drawnFor (mostSlots levels) (record { desk = freshDesk; row = cardsOf us }) ++ twinsLine (ended us)
 
 -- the whole: for a wrong line what the bench prints alone
 unfoldable pub pictured : List ℕ → List ℕ

@@ -4,10 +4,11 @@ use mathlib.Core.Path.{_≡_}
 use mathlib.Core.Bool.{true}
 use mathlib.Core.List.{List}
 use Prim.Native.Nat.{ℕ, zero, suc}
-use Rattle.walk.specs.Record.{isAccepted}
+use Rattle.walk.specs.Marks.{levels}
+use Rattle.walk.specs.Record.{mostSlots, isAccepted}
 use Rattle.walk.proofs.Accepted.{started-accepted, heard-accepted}
 use Rattle.row.specs.Row.{deskAfter, Played, slotPlayed, playedFor}
-use Rattle.row.specs.Play.{freshDesk, mostSlots, ended}
+use Rattle.row.specs.Play.{freshDesk, ended}
 
 played-accepted : (n : ℕ) (p : Played) → isAccepted (p .desk .walk) ≡ true → isAccepted (playedFor n p .desk .walk) ≡ true
 unfolding playedFor slotPlayed deskAfter
@@ -16,4 +17,4 @@ played-accepted (suc n) p h = played-accepted n (slotPlayed p) (heard-accepted (
 
 pub ended-accepted : (us : List ℕ) → isAccepted (ended us .walk) ≡ true
 unfolding ended freshDesk
-ended-accepted us = played-accepted mostSlots _ (started-accepted 256)
+ended-accepted us = played-accepted (mostSlots levels) _ (started-accepted 256)

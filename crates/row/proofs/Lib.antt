@@ -4,7 +4,7 @@ mod Answer
 mod RowPart
 mod Dealt
 mod SlotMade
-mod Played
+pub mod Played
 mod LocalRow
 pub mod Accepted
 mod Values

@@ -1,12 +1,13 @@
 -- 01, Bench: a fresh walk over the row, slot after slot. "cards Ready, no family"
-use Prim.Native.Nat.{ℕ, _*_}
+use Prim.Native.Nat.{ℕ}
 use mathlib.Core.Bool.{Bool, _&&_}
 use mathlib.Core.List.{List, [], _∷_, _++_}
 use lib.Dec.{ltb}
 use lib.ListN.{take, drop}
 use Rattle.card.specs.declared.Card.{Card}
 use Rattle.walk.specs.declared.Walk.{Walk}
-use Rattle.walk.specs.Record.{started, isRunning}
+use Rattle.walk.specs.Marks.{levels}
+use Rattle.walk.specs.Record.{mostSlots, started, isRunning}
 use Rattle.row.specs.declared.Air.{Air}
 use Rattle.row.specs.declared.Desk.{Desk}
 use Rattle.row.specs.declared.Slotted.{Slotted}
@@ -42,13 +43,10 @@ slotted row n d =
 
 -- ---- all slots
 
--- a walk has ended after 16 × 481 slots (demand 3)
-unfoldable pub mostSlots : ℕ
-mostSlots = 16 * 481
-
--- whether a slot is still to be heard after n
+-- whether a slot is still to be heard after n, of all that a walk of 16 levels can have
 unfoldable pub goesOn : Desk → ℕ → Bool
-goesOn d n = ltb n mostSlots && isRunning (d .walk)
+goesOn d n = ltb n (mostSlots levels) && isRunning (d .walk)
 
+-- a walk has ended after so many (demand 3)
 unfoldable pub ended : List ℕ → Desk
-ended us = playedFor mostSlots (record { desk = freshDesk; row = cardsOf us }) .desk
+ended us = playedFor (mostSlots levels) (record { desk = freshDesk; row = cardsOf us }) .desk

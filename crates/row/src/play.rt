@@ -13,7 +13,11 @@ use crate::row::card_of;
 use crate::row::listen_row;
 use card::Card;
 use walk::Kind;
+use walk::MOST_ROUNDS;
 use walk::Walk;
+
+// The most slots of a walk: 16 in each of its rounds.
+const MOST_SLOTS: u32 = 16 * (MOST_ROUNDS as u32);
 
 // A fresh walk of no family, with an empty list.
 pub fn fresh() -> Desk
@@ -92,12 +96,16 @@ pub fn slot(mut row: [Card; 100], n: usize, desk: Desk) -> Slotted
     }
 }
 
-// Whether a slot is still to be heard after n, of 16 for each of 481 rounds.
+// Whether a slot is still to be heard after n.
 pub fn goes_on(desk: Desk, n: u32) -> bool
     ensures { λ r. ⌜ r ≡ goesOn desk n ⌝ }
 {
     let walk = desk.walk;
-    if n < 7696 { walk.ending == 0 } else { false }
+    if n < MOST_SLOTS {
+        walk.ending == 0
+    } else {
+        false
+    }
 }
 
 // A fresh walk over the cards of the first n UIDs, to its end: for each slot they are lent where they stand. Any k that counts as n will do.

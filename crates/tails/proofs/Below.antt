@@ -9,7 +9,7 @@ use mathlib.Core.List.{List}
 use borrow.Author.Tests.{leb-false, lt-leb}
 use lib.ListN.{length}
 use Rattle.tails.specs.Sum.{tot, one}
-use Rattle.tails.specs.Tails.{ending, isShared, sharedOf, sharedTails}
+use Rattle.tails.specs.Tails.{ending, isShared, sharedOf, sharedTailsTo}
 use Rattle.tails.proofs.Sums.{tot-cong, tot-zero, tot-shift, tot-swap, tot-digits}
 use Rattle.tails.proofs.Digits.{above-below, above-tail}
 use Rattle.tails.proofs.Parts.{ending-shorter}
@@ -67,18 +67,14 @@ flat-shared us i =
     tot-cong (16 ^ i) 0 (λ t. one (isShared us (0 + i) (0 + t * 16 ^ 0))) (λ t. one (isShared us i t))
     (λ t a b. ap₂ (λ (k p : ℕ). one (isShared us k p)) (zero-add i) (whole t))
 
-below-all-of : (us : List ℕ) (n : ℕ) → tot 16 0 (λ s. below us n 1 (0 + s * 16 ^ 0)) ≡ tot n 1 (sharedOf us)
-unfolding below tot
-below-all-of us n =
+-- all of them
+pub below-all : (us : List ℕ) (n : ℕ) → tot 16 0 (λ s. below us n 1 (0 + s * 16 ^ 0)) ≡ sharedTailsTo n us
+unfolding below tot sharedTailsTo
+below-all us n =
     let flat : ℕ → ℕ = λ i. tot (16 ^ i) 0 (λ t. one (isShared us (0 + i) (0 + t * 16 ^ 0))) in
     let whole : one (isShared us 0 0) + tot 16 0 (λ s. below us n 1 (0 + s * 16 ^ 0)) ≡ flat 0 + tot n 1 flat = below-flat us (suc n) 0 0 in
     add-left-cancel (one (isShared us 0 0)) (whole ∙ ap (λ (a : ℕ). a + tot n 1 flat) (flat-none us 0 0))
     ∙ tot-cong n 1 flat (sharedOf us) (λ i a b. flat-shared us i)
-
--- all of them
-pub below-all : (us : List ℕ) → tot 16 0 (λ s. below us 15 1 (0 + s * 16 ^ 0)) ≡ sharedTails us
-unfolding sharedTails
-below-all us = below-all-of us 15
 
 -- a tail that is not shared, with a digit above it
 above-unshared : (us : List ℕ) (j m s : ℕ) → m < 16 ^ j → isShared us j m ≡ false → isShared us (suc j) (m + s * 16 ^ j) ≡ false

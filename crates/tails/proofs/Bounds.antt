@@ -10,7 +10,7 @@ use borrow.Author.Tests.{leb-true}
 use lib.Dec.{leb}
 use lib.ListN.{length}
 use Rattle.tails.specs.Sum.{tot, one, tally}
-use Rattle.tails.specs.Tails.{ending, isShared, sharedOf, sharedTails}
+use Rattle.tails.specs.Tails.{ending, isShared, sharedOf, sharedTailsTo}
 use Rattle.tails.proofs.Sums.{tot-le, tot-mul, tot-const}
 use Rattle.tails.proofs.Tally.{tally-one}
 use Rattle.tails.proofs.Parts.{ending-tails}
@@ -44,9 +44,9 @@ shared-of-one us =
     let most : sharedOf us 1 ≤ tot 16 0 (λ m. 1) = tot-le 16 0 (λ m. one (isShared us 1 m)) (λ m. 1) (λ m a b. one-at-most (isShared us 1 m)) in
     le-trans most (le-of-eq (tot-const 16 0 1))
 
-pub shared-tails-half : (us : List ℕ) → sharedTails us ≤ 15 * (length us / 2)
-unfolding sharedTails
-shared-tails-half us =
+pub shared-tails-half : (us : List ℕ) (k : ℕ) → sharedTailsTo k us ≤ k * (length us / 2)
+unfolding sharedTailsTo
+shared-tails-half us k =
     let half : (j : ℕ) → 2 * sharedOf us j ≤ length us = shared-of-half us in
     let each : (j : ℕ) → sharedOf us j ≤ length us / 2 = λ j. omega (arith, half j) in
-    rw (← tot-const 15 1 (length us / 2)) (tot-le 15 1 (sharedOf us) (λ j. length us / 2) (λ j a b. each j))
+    rw (← tot-const k 1 (length us / 2)) (tot-le k 1 (sharedOf us) (λ j. length us / 2) (λ j a b. each j))

@@ -3,14 +3,14 @@
 use mathlib.Core.Path.{_≡_, refl, sym, ap, _∙_}
 use mathlib.Core.Bool.{Bool, true, false, _&&_}
 use Prim.Native.Nat.{ℕ, suc, _+_, _*_, _/_, _%_, _^_, _≤_, _<_}
-use native.Mathlib.Nat.{one-mul, zero-mul, mul-one, mul-comm, mod-lt, mod-one, mod-eq-of-lt}
+use native.Mathlib.Nat.{one-mul, zero-mul, mul-one, mul-comm, mod-lt, mod-one}
 use native.Mathlib.Decide.{ℕ-discrete}
 use native.Mathlib.Omega.{arith}
 use mathlib.Core.List.{List, [], _∷_}
 use borrow.Author.Tests.{eq-eqb, ne-eqb, eqb-true}
 use lib.Dec.{eqb}
-use lib.ListN.{length, getD}
-use Rattle.tails.specs.Sum.{tot, one, tally, times}
+use lib.ListN.{length}
+use Rattle.tails.specs.Sum.{tot, one, tally}
 use Rattle.tails.specs.Tails.{ending}
 use Rattle.tails.proofs.Sums.{tot-cong, tot-zero, tot-mul, tot-at}
 use Rattle.tails.proofs.Tally.{tally-cong, tally-le, tally-tot, tally-ending, length-ending}
@@ -84,15 +84,3 @@ ending-shorter us i j m h =
     rw (length-ending j m us, length-ending i (m % 16 ^ i) us)
     (tally-le (λ u. one (eqb (u % 16 ^ j) m)) (λ u. one (eqb (u % 16 ^ i) (m % 16 ^ i))) us
     (λ u. one-le (eqb (u % 16 ^ j) m) (eqb (u % 16 ^ i) (m % 16 ^ i)) (shorter u)))
-
--- numbers of at most j digits end in themselves
-times-ending : (us : List ℕ) (j m : ℕ) → ((i : ℕ) → getD us i 0 < 16 ^ j)
-    → tally (λ u. one (eqb u m)) us ≡ tally (λ u. one (eqb (u % 16 ^ j) m)) us
-unfolding tally
-times-ending [] j m h = refl
-times-ending (u ∷ us) j m h = rw (mod-eq-of-lt (h 0), times-ending us j m (λ i. h (suc i)))
-
--- two UIDs of sixteen digits that end alike in all of them are one UID twice
-pub ending-whole : (us : List ℕ) (m : ℕ) → ((i : ℕ) → getD us i 0 < 16 ^ 16) → times m us ≡ length (ending 16 m us)
-unfolding times
-ending-whole us m h = times-ending us 16 m h ∙ sym (length-ending 16 m us)

@@ -5,9 +5,10 @@ use mathlib.Core.Bool.{Bool, true, false, cond}
 use Prim.Native.Nat.{ℕ, _+_, _*_, _%_, _^_, _≤_}
 use native.Mathlib.Omega.{arith}
 use mathlib.Core.List.{List, [], _∷_, _++_}
+use borrow.Author.Tests.{eq-eqb}
 use lib.Dec.{eqb}
 use lib.ListN.{length}
-use Rattle.tails.specs.Sum.{tot, one, tally}
+use Rattle.tails.specs.Sum.{tot, one, tally, times}
 use Rattle.tails.specs.Tails.{ending}
 use Rattle.tails.proofs.Sums.{tot-zero, tot-add}
 
@@ -22,6 +23,13 @@ pub tally-cong : (v w : ℕ → ℕ) (us : List ℕ) → ((u : ℕ) → v u ≡ 
 unfolding tally
 tally-cong v w [] h = refl
 tally-cong v w (u ∷ us) h = ap₂ (λ (a b : ℕ). a + b) (h u) (tally-cong v w us h)
+
+-- two weights that are alike on the UIDs of the list
+pub tally-cong-in : (v w : ℕ → ℕ) (us : List ℕ) → ((u : ℕ) → 1 ≤ times u us → v u ≡ w u) → tally v us ≡ tally w us
+unfolding tally times one
+tally-cong-in v w [] h = refl
+tally-cong-in v w (u ∷ us) h =
+    ap₂ (λ (a b : ℕ). a + b) (h u (rw (eq-eqb u u refl) (omega arith))) (tally-cong-in v w us (λ x g. h x (omega (arith, g))))
 
 pub tally-le : (v w : ℕ → ℕ) (us : List ℕ) → ((u : ℕ) → v u ≤ w u) → tally v us ≤ tally w us
 unfolding tally

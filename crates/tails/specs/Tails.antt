@@ -19,6 +19,10 @@ isShared us j m = leb 2 (length (ending j m us))
 unfoldable pub sharedOf : List ℕ → ℕ → ℕ
 sharedOf us j = tot (16 ^ j) 0 (λ m. one (isShared us j m))
 
+-- of 1 to k digits
+unfoldable pub sharedTailsTo : ℕ → List ℕ → ℕ
+sharedTailsTo k us = tot k 1 (sharedOf us)
+
 -- "tails of 1 to 15 digits"
 unfoldable pub sharedTails : List ℕ → ℕ
-sharedTails us = tot 15 1 (sharedOf us)
+sharedTails us = sharedTailsTo 15 us

@@ -3,26 +3,45 @@
 use mathlib.Core.Path.{_≡_, refl}
 use mathlib.Core.Bool.{Bool, true, false, cond}
 use mathlib.Core.List.{List}
-use Prim.Native.Nat.{ℕ, zero, suc, _+_, _<_}
+use Prim.Native.Nat.{ℕ, zero, suc, _+_, _≤_, _<_}
 use native.Mathlib.Omega.{arith}
 use borrow.Author.Tests.{ltb-true, eqb-true}
 use lib.Dec.{ltb, eqb}
-use lib.ListN.{length, getD}
+use lib.ListN.{length, getD, set, length-set}
 use Rattle.walk.specs.declared.Walk.{Walk}
 use Rattle.walk.specs.declared.Kind.{Kind}
 use Rattle.walk.specs.declared.Slot.{Slot}
 use Rattle.walk.specs.declared.Slot.the-variants.{Silent, Clashed, Clean}
-use Rattle.walk.specs.Marks.{levels, deepestOf, deepest, withMark, withoutMark, lowest}
-use Rattle.walk.specs.Record.{places, mostRounds, maskLength, marksFit, isAccepted}
-use Rattle.walk.specs.Record.{remade, ended, counted, marked, atNextSlot, openedAt, opened, noMarks, started}
+use Rattle.walk.specs.Marks.{levels, deepest, withMark, withoutMark, lowest}
+use Rattle.walk.specs.Record.{levelsOf, mostRounds, maskLength, isAccepted}
+use Rattle.walk.specs.Record.{remade, ended, counted, marked, atNextSlot, openedAt, opened, noMarks, startedOf, started}
 use Rattle.walk.specs.Hear.{judged, endsAtOnce, noted, turned, passed, walkAfter, refusal, Hearing, hearing}
-use Rattle.walk.proofs.Levels.{lowest-is-slot, deepest-set}
+use Rattle.walk.proofs.Levels.{lowest-is-slot, deepest-none, deepest-set}
+use Rattle.walk.proofs.LevelsStay.{levels-started}
 use Rattle.walk.proofs.Limits.{Accepted, accepted-of-is-accepted, is-accepted-of-accepted, opened-mask-fits}
 use Rattle.walk.proofs.HearWays.{clash-goes-on, clean-goes-on}
 
+pub started-facts : (levels family : ℕ) → 1 ≤ levels → Accepted (startedOf levels family)
+unfolding startedOf maskLength mostRounds
+started-facts levels family h =
+    let long : length (noMarks levels) ≡ levels = levels-started levels family in
+    record {
+      level = rw long (omega arith);
+      slot = omega arith;
+      count = omega arith;
+      first-round = omega arith;
+      last-round = rw long (omega arith);
+      mask = omega arith;
+      own-level = rw (deepest-none levels) (omega arith);
+      last-level = rw (deepest-none levels, long) (omega arith);
+    }
+
+pub started-of-accepted : (levels family : ℕ) → 1 ≤ levels → isAccepted (startedOf levels family) ≡ true
+started-of-accepted levels family h = is-accepted-of-accepted (startedOf levels family) (started-facts levels family h)
+
 pub started-accepted : (family : ℕ) → isAccepted (started family) ≡ true
-unfolding isAccepted started noMarks marksFit deepest deepestOf levels places mostRounds maskLength
-started-accepted family = refl
+unfolding started levels
+started-accepted family = started-of-accepted levels family (omega arith)
 
 -- by a test, either way
 by-test : (b : Bool) (x y : Walk) → (b ≡ true → Accepted x) → (b ≡ false → Accepted y) → Accepted (cond b x y)
@@ -58,20 +77,21 @@ module _ (w : Walk) (a : Accepted w) where
         last-level = a .last-level;
       }
 
-  marked-facts : w .level < 15 → Accepted (marked w)
+  marked-facts : w .level + 1 < length (w .marks) → Accepted (marked w)
   unfolding marked remade
   marked-facts h =
       let m : ℕ = withMark (getD (w .marks) (w .level) 0) (w .slot) in
       let own = deepest-set (w .marks) (w .level) m (w .level + 1) (omega arith) (a .own-level) in
+      let same : length (set (w .marks) (w .level) m) ≡ length (w .marks) = length-set (w .marks) (w .level) m in
       record {
-        level = a .level;
+        level = rw same (a .level);
         slot = a .slot;
         count = a .count;
         first-round = a .first-round;
-        last-round = a .last-round;
+        last-round = rw same (a .last-round);
         mask = a .mask;
         own-level = own;
-        last-level = omega (arith, own);
+        last-level = omega (arith, own, same);
       }
 
   pub next-slot-facts : w .slot < 15 → Accepted (atNextSlot w)
@@ -88,28 +108,29 @@ module _ (w : Walk) (a : Accepted w) where
         last-level = a .last-level;
       }
 
-  pub opened-facts : (j : ℕ) → deepest (w .marks) ≡ suc j → w .rounds < 481 → Accepted (opened w j)
+  pub opened-facts : (j : ℕ) → deepest (w .marks) ≡ suc j → w .rounds < mostRounds (length (w .marks)) → Accepted (opened w j)
   unfolding opened openedAt remade
   opened-facts j is h =
       let s : ℕ = lowest (getD (w .marks) j 0) in
-      let below : suc j < 16 = rw (← is) (a .last-level) in
+      let below : suc j < length (w .marks) = rw (← is) (a .last-level) in
+      let same : length (set (w .marks) j (withoutMark (getD (w .marks) j 0) s)) ≡ length (w .marks) = length-set (w .marks) j (withoutMark (getD (w .marks) j 0) s) in
       let own = deepest-set (w .marks) j (withoutMark (getD (w .marks) j 0) s) (j + 1) (omega arith) (omega arith) in
       record {
-        level = omega arith;
+        level = omega (arith, same, below);
         slot = omega arith;
         count = a .count;
         first-round = omega arith;
-        last-round = omega arith;
+        last-round = rw same (omega arith);
         mask = opened-mask-fits (w .mask) j s (lowest-is-slot (getD (w .marks) j 0));
         own-level = omega (arith, own);
-        last-level = omega (arith, own);
+        last-level = omega (arith, own, same, below);
       }
 
   turned-facts : (n : ℕ) → deepest (w .marks) ≡ n → Accepted (turned w n)
-  unfolding turned mostRounds
+  unfolding turned levelsOf
   turned-facts zero is = ended-facts 1
   turned-facts (suc j) is =
-      by-test (ltb (w .rounds) 481) (opened w j) (ended 4 w) (λ e. opened-facts j is (ltb-true (w .rounds) 481 e)) (λ e. ended-facts 4)
+      by-test (ltb (w .rounds) (mostRounds (length (w .marks)))) (opened w j) (ended 4 w) (λ e. opened-facts j is (ltb-true (w .rounds) (mostRounds (length (w .marks))) e)) (λ e. ended-facts 4)
 
   passed-facts : Accepted (passed w)
   unfolding passed

@@ -2,7 +2,7 @@
 use mathlib.Core.Path.{_≡_, refl, sym, ap, _∙_}
 use mathlib.Core.Bool.{Bool, true, false, cond}
 use mathlib.Core.List.{List}
-use Prim.Native.Nat.{ℕ, suc, _-_, _≤_, _<_}
+use Prim.Native.Nat.{ℕ, suc, _+_, _-_, _≤_, _<_}
 use native.Mathlib.Omega.{arith}
 use borrow.Author.Tests.{lt-ltb, le-ltb, ltb-true, leb-true, le-leb, ne-eqb}
 use lib.Dec.{leb, ltb, eqb}
@@ -11,7 +11,7 @@ use Rattle.walk.specs.declared.Walk.{Walk}
 use Rattle.walk.specs.declared.Kind.{Kind}
 use Rattle.walk.specs.declared.Slot.{Slot}
 use Rattle.walk.specs.declared.Slot.the-variants.{Clashed, Clean}
-use Rattle.walk.specs.Record.{places, mostRounds, isRunning, isAccepted, ended, opened}
+use Rattle.walk.specs.Record.{places, levelsOf, mostRounds, isRunning, isAccepted, ended, opened}
 use Rattle.walk.specs.Hear.{judged, endsAtOnce, noted, listNoted, turned, passed, walkAfter, listAfter, refusal, hearing, Hears}
 use Rattle.walk.specs.Steps.{After}
 
@@ -25,9 +25,9 @@ below-of-cond a b n other e = go (ltb a b) refl e
     go true is e = ltb-true a b is
     go false is e = absurd (other e)
 
-pub clash-goes-on : (w : Walk) {slot : Slot} → slot ≡ Clashed → endsAtOnce w slot ≡ 0 → w .level < 15
-unfolding endsAtOnce
-clash-goes-on w is e = below-of-cond (w .level) 15 2 (λ h. omega arith) (sym (ap (λ (s : Slot). endsAtOnce w s) is) ∙ e)
+pub clash-goes-on : (w : Walk) {slot : Slot} → slot ≡ Clashed → endsAtOnce w slot ≡ 0 → w .level + 1 < length (w .marks)
+unfolding endsAtOnce levelsOf
+clash-goes-on w is e = below-of-cond (w .level + 1) (length (w .marks)) 2 (λ h. omega arith) (sym (ap (λ (s : Slot). endsAtOnce w s) is) ∙ e)
 
 pub clean-goes-on : (w : Walk) {slot : Slot} {uid : ℕ} → slot ≡ Clean uid → endsAtOnce w slot ≡ 0 → w .count < 64
 unfolding endsAtOnce places
@@ -39,17 +39,17 @@ pub turned-complete : (w : Walk) (n : ℕ) → n ≡ 0 → turned w n ≡ ended 
 unfolding turned
 turned-complete w n e = rw e
 
-pub turned-opened : (w : Walk) (n : ℕ) → (n ≡ 0 → ⊥) → w .rounds < 481 → turned w n ≡ opened w (n - 1)
-unfolding turned mostRounds
+pub turned-opened : (w : Walk) (n : ℕ) → (n ≡ 0 → ⊥) → w .rounds < mostRounds (length (w .marks)) → turned w n ≡ opened w (n - 1)
+unfolding turned levelsOf
 turned-opened w n h k =
     let one : n ≡ suc (n - 1) = omega arith in
-    ap (λ (m : ℕ). turned w m) one ∙ rw (lt-ltb (w .rounds) 481 k)
+    ap (λ (m : ℕ). turned w m) one ∙ rw (lt-ltb (w .rounds) (mostRounds (length (w .marks))) k)
 
-pub turned-overrun : (w : Walk) (n : ℕ) → (n ≡ 0 → ⊥) → 481 ≤ w .rounds → turned w n ≡ ended 4 w
-unfolding turned mostRounds
+pub turned-overrun : (w : Walk) (n : ℕ) → (n ≡ 0 → ⊥) → mostRounds (length (w .marks)) ≤ w .rounds → turned w n ≡ ended 4 w
+unfolding turned levelsOf
 turned-overrun w n h k =
     let one : n ≡ suc (n - 1) = omega arith in
-    ap (λ (m : ℕ). turned w m) one ∙ rw (le-ltb (w .rounds) 481 k)
+    ap (λ (m : ℕ). turned w m) one ∙ rw (le-ltb (w .rounds) (mostRounds (length (w .marks))) k)
 
 -- ---- what a slot leaves behind
 

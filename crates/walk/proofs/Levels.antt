@@ -1,6 +1,6 @@
 -- Laws of the clash marks: a level's number stays within sixteen bits, the lowest mark is one of sixteen slots, and a store at one level
 -- moves the deepest no further than that level. By the bits below and above a slot, and by induction over slots and levels. Assumes nothing.
-use mathlib.Core.Path.{_≡_, sym, ap, _∙_}
+use mathlib.Core.Path.{_≡_, refl, sym, ap, _∙_}
 use mathlib.Core.Bool.{Bool, true, false, cond}
 use mathlib.Core.List.{List}
 use Prim.Native.Nat.{ℕ, zero, suc, _+_, _-_, _*_, _/_, _%_, _^_, _≤_, _<_}
@@ -9,10 +9,11 @@ use native.Mathlib.Decide.{decLt}
 use native.Mathlib.Omega.{arith}
 use borrow.Author.Tests.{eqb-true, eqb-false, eq-eqb, ne-eqb}
 use lib.Dec.{eqb}
-use lib.ListN.{getD, set}
+use lib.ListN.{length, getD, set, length-set}
 use lib.Pow.{pow-pos, pow-add, shl-exact, shr-lt, split}
 use lib.Seq.{getD-set-other}
-use Rattle.walk.specs.Marks.{levels, waits, lowestFrom, lowest, deepestOf, deepest}
+use Rattle.walk.specs.Marks.{waits, lowestFrom, lowest, deepestOf, deepest}
+use Rattle.walk.specs.Record.{noMarks}
 
 -- ---- one level's number
 
@@ -121,5 +122,21 @@ deepest-of-set marks level m k (suc n) h d = go (λ e. deepest-of-set marks leve
         (cond-below (eqb (getD marks n 0) 0) (deepestOf marks n) (deepestOf (set marks level m) n) (suc n) k before d)
 
 pub deepest-set : (marks : List ℕ) (level m k : ℕ) → level < k → deepest marks ≤ k → deepest (set marks level m) ≤ k
-unfolding levels deepest
-deepest-set marks level m k h d = deepest-of-set marks level m k 16 h d
+unfolding deepest
+deepest-set marks level m k h d = rw (length-set marks level m) (deepest-of-set marks level m k (length marks) h d)
+
+-- a level without marks among levels without marks
+none-waits : (levels n : ℕ) → getD (noMarks levels) n 0 ≡ 0
+unfolding noMarks
+none-waits zero n = refl
+none-waits (suc levels) zero = refl
+none-waits (suc levels) (suc n) = none-waits levels n
+
+deepest-of-none : (levels n : ℕ) → deepestOf (noMarks levels) n ≡ 0
+unfolding deepestOf
+deepest-of-none levels zero = refl
+deepest-of-none levels (suc n) = rw (none-waits levels n) (deepest-of-none levels n)
+
+pub deepest-none : (levels : ℕ) → deepest (noMarks levels) ≡ 0
+unfolding deepest
+deepest-none levels = deepest-of-none levels (length (noMarks levels))

@@ -3,6 +3,7 @@ pub mod Limits
 pub mod HearWays
 pub mod Requests
 pub mod AskWays
+pub mod LevelsStay
 pub mod Accepted
 pub mod Unique
 pub mod Examples

@@ -7,64 +7,73 @@ use native.Mathlib.Nat.{mod-lt, mul-le-mul-right}
 use native.Mathlib.Omega.{arith}
 use borrow.Author.Tests.{leb-true, ltb-true, le-leb, lt-ltb}
 use lib.Dec.{leb, ltb}
+use lib.ListN.{length}
 use lib.Pow.{pow-pos, pow-mono, pow-add}
 use Rattle.walk.specs.declared.Walk.{Walk}
-use Rattle.walk.specs.Marks.{levels, deepest}
-use Rattle.walk.specs.Record.{places, mostRounds, maskLength, marksFit, isAccepted, openedMask}
+use Rattle.walk.specs.Marks.{deepest}
+use Rattle.walk.specs.Record.{places, levelsOf, mostRounds, maskLength, marksFit, isAccepted, openedMask}
 
 pub record Accepted (w : Walk) : Type 0 where
-  pub level : w .level < 16
+  pub level : w .level < length (w .marks)
   pub slot : w .slot ≤ 15
   pub count : w .count ≤ 64
   pub first-round : 1 ≤ w .rounds
-  pub last-round : w .rounds ≤ 481
+  pub last-round : w .rounds ≤ mostRounds (length (w .marks))
   pub mask : w .mask < 2 ^ maskLength (w .level)
   pub own-level : deepest (w .marks) ≤ w .level + 1
-  pub last-level : deepest (w .marks) < 16
+  pub last-level : deepest (w .marks) < length (w .marks)
 
 pub accepted-of-is-accepted : (w : Walk) → isAccepted w ≡ true → Accepted w
-unfolding isAccepted marksFit levels places mostRounds
+unfolding isAccepted marksFit levelsOf places
 accepted-of-is-accepted w e =
-    let t1 = and-eq-true-iff (ltb (w .level) 16) _ .0 e in
+    let t1 = and-eq-true-iff (ltb (w .level) (length (w .marks))) _ .0 e in
     let t2 = and-eq-true-iff (leb (w .slot) 15) _ .0 (t1 .1) in
     let t3 = and-eq-true-iff (leb (w .count) 64) _ .0 (t2 .1) in
     let t4 = and-eq-true-iff (leb 1 (w .rounds)) _ .0 (t3 .1) in
-    let t5 = and-eq-true-iff (leb (w .rounds) 481) _ .0 (t4 .1) in
+    let t5 = and-eq-true-iff (leb (w .rounds) (mostRounds (length (w .marks)))) _ .0 (t4 .1) in
     let t6 = and-eq-true-iff (ltb (w .mask) (2 ^ maskLength (w .level))) _ .0 (t5 .1) in
-    let t7 = and-eq-true-iff (leb (deepest (w .marks)) (w .level + 1)) (ltb (deepest (w .marks)) 16) .0 (t6 .1) in
+    let t7 = and-eq-true-iff (leb (deepest (w .marks)) (w .level + 1)) (ltb (deepest (w .marks)) (length (w .marks))) .0 (t6 .1) in
     record {
-      level = ltb-true (w .level) 16 (t1 .0);
+      level = ltb-true (w .level) (length (w .marks)) (t1 .0);
       slot = leb-true (w .slot) 15 (t2 .0);
       count = leb-true (w .count) 64 (t3 .0);
       first-round = leb-true 1 (w .rounds) (t4 .0);
-      last-round = leb-true (w .rounds) 481 (t5 .0);
+      last-round = leb-true (w .rounds) (mostRounds (length (w .marks))) (t5 .0);
       mask = ltb-true (w .mask) (2 ^ maskLength (w .level)) (t6 .0);
       own-level = leb-true (deepest (w .marks)) (w .level + 1) (t7 .0);
-      last-level = ltb-true (deepest (w .marks)) 16 (t7 .1);
+      last-level = ltb-true (deepest (w .marks)) (length (w .marks)) (t7 .1);
     }
 
 -- the tests on slot, count and rounds, and all of them after the level's
 abbrev pub numbersFit : Walk → Bool
-numbersFit w = leb (w .slot) 15 && leb (w .count) 64 && leb 1 (w .rounds) && leb (w .rounds) 481
+numbersFit w = leb (w .slot) 15 && leb (w .count) 64 && leb 1 (w .rounds) && leb (w .rounds) (mostRounds (length (w .marks)))
 
-pub is-accepted-by-tests : (w : Walk) → w .level < 16
+pub is-accepted-by-tests : (w : Walk) → w .level < length (w .marks)
     → isAccepted w ≡ (numbersFit w && (ltb (w .mask) (2 ^ maskLength (w .level)) && marksFit (w .marks) (w .level)))
-unfolding isAccepted levels places mostRounds
-is-accepted-by-tests w h = rw (lt-ltb (w .level) 16 h) (sym (simp and-assoc))
+unfolding isAccepted levelsOf places
+is-accepted-by-tests w h = rw (lt-ltb (w .level) (length (w .marks)) h) (sym (simp and-assoc))
 
 pub is-accepted-of-accepted : (w : Walk) → Accepted w → isAccepted w ≡ true
-unfolding isAccepted marksFit levels places mostRounds
+unfolding isAccepted marksFit levelsOf places
 is-accepted-of-accepted w a =
     rw (
-      lt-ltb (w .level) 16 (a .level),
+      lt-ltb (w .level) (length (w .marks)) (a .level),
       le-leb (w .slot) 15 (a .slot),
       le-leb (w .count) 64 (a .count),
       le-leb 1 (w .rounds) (a .first-round),
-      le-leb (w .rounds) 481 (a .last-round),
+      le-leb (w .rounds) (mostRounds (length (w .marks))) (a .last-round),
       lt-ltb (w .mask) (2 ^ maskLength (w .level)) (a .mask),
       le-leb (deepest (w .marks)) (w .level + 1) (a .own-level),
-      lt-ltb (deepest (w .marks)) 16 (a .last-level),
+      lt-ltb (deepest (w .marks)) (length (w .marks)) (a .last-level),
     )
+
+-- of a walk of 16 levels at the most: a level that a mask of 60 bits serves, and rounds of three digits
+pub level-most : {w : Walk} → Accepted w → length (w .marks) ≤ 16 → w .level < 16
+level-most a h = omega (arith, a .level, h)
+
+pub rounds-most : {w : Walk} → Accepted w → length (w .marks) ≤ 16 → w .rounds ≤ 481
+unfolding mostRounds
+rounds-most a h = omega (arith, a .last-round, h)
 
 -- the digit above 14 digits at the most is within 60 bits, and so is what stands below it
 pub unit-most : (j : ℕ) → j < 15 → 2 ^ (4 * j) ≤ 2 ^ 56

@@ -1,5 +1,5 @@
 -- 01, The walk: what a slot makes of the walk and of its list.
-use Prim.Native.Nat.{ℕ, zero, suc}
+use Prim.Native.Nat.{ℕ, zero, suc, _+_}
 use mathlib.Core.Bool.{Bool, cond, _&&_}
 use mathlib.Core.List.{List}
 use mathlib.Core.Path.{_≡_}
@@ -15,7 +15,7 @@ use Rattle.walk.specs.declared.Slot.{Slot}
 use Rattle.walk.specs.declared.Slot.the-variants.{Silent, Clashed, Clean}
 use Rattle.walk.specs.declared.Heard.{Heard}
 use Rattle.walk.specs.Marks.{deepest}
-use Rattle.walk.specs.Record.{places, mostRounds, maskLength, running, complete, twins, full, overrun, isRunning, isAccepted, ended, counted, marked, atNextSlot, opened}
+use Rattle.walk.specs.Record.{places, mostRounds, levelsOf, maskLength, running, complete, twins, full, overrun, isRunning, isAccepted, ended, counted, marked, atNextSlot, opened}
 
 -- ---- what is heard in a slot
 
@@ -40,7 +40,7 @@ judged w Bytes bytes = cond (isClean w bytes) (Clean (uidOf bytes)) Clashed
 -- "twins (a clash at k=15, at once), full (a clean UID with 64 listed, at once)": the ending, or 0
 unfoldable pub endsAtOnce : Walk → Slot → ℕ
 endsAtOnce w Silent = running
-endsAtOnce w Clashed = cond (ltb (w .level) 15) running twins
+endsAtOnce w Clashed = cond (ltb (w .level + 1) (levelsOf w)) running twins
 endsAtOnce w (Clean uid) = cond (ltb (w .count) places) running full
 
 -- "Clean UIDs are listed as heard.": at the first free place
@@ -58,7 +58,7 @@ listNoted w (Clean uid) list = set list (w .count) uid
 -- "overrun (round 482 would be needed)". The second argument is one more than that level, or 0 where no clash waits
 unfoldable pub turned : Walk → ℕ → Walk
 turned w zero = ended complete w
-turned w (suc j) = cond (ltb (w .rounds) mostRounds) (opened w j) (ended overrun w)
+turned w (suc j) = cond (ltb (w .rounds) (mostRounds (levelsOf w))) (opened w j) (ended overrun w)
 
 unfoldable pub passed : Walk → Walk
 passed w = cond (ltb (w .slot) 15) (atNextSlot w) (turned w (deepest (w .marks)))

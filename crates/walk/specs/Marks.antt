@@ -3,9 +3,9 @@ use Prim.Native.Nat.{ℕ, zero, suc, _+_, _-_, _/_, _%_, _^_}
 use mathlib.Core.Bool.{Bool, cond}
 use mathlib.Core.List.{List}
 use lib.Dec.{eqb}
-use lib.ListN.{getD}
+use lib.ListN.{length, getD}
 
--- "its 16 levels", "k from 0 to 15"
+-- "its 16 levels", "k from 0 to 15": those of a fresh walk. Any walk has as many levels as marks
 unfoldable pub levels : ℕ
 levels = 16
 
@@ -36,4 +36,4 @@ deepestOf marks zero = 0
 deepestOf marks (suc n) = cond (eqb (getD marks n 0) 0) (deepestOf marks n) (suc n)
 
 unfoldable pub deepest : List ℕ → ℕ
-deepest marks = deepestOf marks levels
+deepest marks = deepestOf marks (length marks)

@@ -1,9 +1,9 @@
 -- 01, The walk: the record, which ones number 10 refuses, and each way in which it changes.
-use Prim.Native.Nat.{ℕ, _+_, _*_, _%_, _^_}
+use Prim.Native.Nat.{ℕ, _+_, _-_, _*_, _%_, _^_}
 use mathlib.Core.Bool.{Bool, _&&_}
-use mathlib.Core.List.{List, [], _∷_}
+use mathlib.Core.List.{List}
 use lib.Dec.{leb, ltb, eqb}
-use lib.ListN.{getD, set}
+use lib.ListN.{length, getD, set, replicate}
 use Rattle.walk.specs.declared.Walk.{Walk}
 use Rattle.walk.specs.Marks.{levels, withMark, withoutMark, lowest, deepest}
 
@@ -11,9 +11,17 @@ use Rattle.walk.specs.Marks.{levels, withMark, withoutMark, lowest, deep
 unfoldable pub places : ℕ
 places = 64
 
--- "overrun (round 482 would be needed)"
-unfoldable pub mostRounds : ℕ
-mostRounds = 481
+-- "A walk keeps, for each of its 16 levels, which slots clashed and wait.": it has a level for each number of its marks
+unfoldable pub levelsOf : Walk → ℕ
+levelsOf w = length (w .marks)
+
+-- "overrun (round 482 would be needed)": 1 + 15 × (64 / 2), "481 for 64", where the levels are 16
+unfoldable pub mostRounds : ℕ → ℕ
+mostRounds levels = 32 * levels - 31
+
+-- "Slots 0 to 15 are then heard": so many slots in all rounds together
+unfoldable pub mostSlots : ℕ → ℕ
+mostSlots levels = 16 * mostRounds levels
 
 -- "mask length 4k with k from 0 to 15", in bits
 unfoldable pub maskLength : ℕ → ℕ
@@ -47,16 +55,16 @@ hasFamily w = ltb (w .family) 256
 
 -- "a clash mark at a level deeper than its own or at the last level"
 unfoldable pub marksFit : List ℕ → ℕ → Bool
-marksFit marks level = leb (deepest marks) (level + 1) && ltb (deepest marks) levels
+marksFit marks level = leb (deepest marks) (level + 1) && ltb (deepest marks) (length marks)
 
 -- "walk record: level or slot over 15, list count over 64, rounds 0 or over 481, mask bits above its length (4 × level), a clash mark .."
 unfoldable pub isAccepted : Walk → Bool
 isAccepted w =
-    ltb (w .level) levels
+    ltb (w .level) (levelsOf w)
     && (leb (w .slot) 15
     && (leb (w .count) places
     && (leb 1 (w .rounds)
-    && (leb (w .rounds) mostRounds
+    && (leb (w .rounds) (mostRounds (levelsOf w))
     && (ltb (w .mask) (2 ^ maskLength (w .level)) && marksFit (w .marks) (w .level))))))
 
 -- ---- the changes: the family never does
@@ -103,10 +111,15 @@ openedAt w j s =
 unfoldable pub opened : Walk → ℕ → Walk
 opened w j = openedAt w j (lowest (getD (w .marks) j 0))
 
-unfoldable pub noMarks : List ℕ
-noMarks = 0 ∷ 0 ∷ 0 ∷ 0 ∷ 0 ∷ 0 ∷ 0 ∷ 0 ∷ 0 ∷ 0 ∷ 0 ∷ 0 ∷ 0 ∷ 0 ∷ 0 ∷ 0 ∷ []
+-- no slot of so many levels waits
+unfoldable pub noMarks : ℕ → List ℕ
+noMarks levels = replicate levels 0
 
--- "a round count starting at 1", with no mask, no mark and an empty list
+-- "a round count starting at 1", with no mask, no mark and an empty list: a walk of so many levels
+unfoldable pub startedOf : ℕ → ℕ → Walk
+startedOf levels family =
+    record { mask = 0; marks = noMarks levels; rounds = 1; family = family; level = 0; slot = 0; count = 0; ending = running }
+
+-- a fresh walk has 01's 16 levels
 unfoldable pub started : ℕ → Walk
-started family =
-    record { mask = 0; marks = noMarks; rounds = 1; family = family; level = 0; slot = 0; count = 0; ending = running }
+started family = startedOf levels family

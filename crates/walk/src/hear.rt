@@ -9,6 +9,8 @@ ghost use Rattle.walk.specs.Hear.{uidOf, isClean, judged, endsAtOnce, no
 ghost use Rattle.walk.specs.Steps.{After};
 use crate::Heard;
 use crate::Kind;
+use crate::LAST_LEVEL;
+use crate::MOST_ROUNDS;
 use crate::Slot;
 use crate::Walk;
 use crate::marks::deepest;
@@ -58,7 +60,7 @@ fn ends_at_once(walk: Walk, slot: Slot) -> u8
 {
     match slot {
         Slot::Silent => 0,
-        Slot::Clashed => if walk.level < 15 { 0 } else { 2 },
+        Slot::Clashed => if walk.level < LAST_LEVEL { 0 } else { 2 },
         Slot::Clean(_) => if walk.count < 64 { 0 } else { 3 },
     }
 }
@@ -82,7 +84,7 @@ fn note(walk: Walk, slot: Slot, list: &mut [u64]) -> Walk
 
 // On to the next slot; after slot 15 the walk opens a clash of the deepest level where one waits, or ends.
 fn pass(walk: Walk) -> Walk
-    requires { ⌜ deepest (walk .marks) < 16 ⌝ }
+    requires { ⌜ deepest (walk .marks) < length (walk .marks) ⌝ }
     ensures { λ r. ⌜ r ≡ passed walk ⌝ }
 {
     if walk.slot < 15 {
@@ -93,7 +95,7 @@ fn pass(walk: Walk) -> Walk
     if n == 0 {
         return walk.ended(1);
     }
-    if walk.rounds < 481 {
+    if walk.rounds < MOST_ROUNDS {
         walk.opened((n - 1) as u8)
     } else {
         walk.ended(4)

@@ -2,6 +2,7 @@
 ghost use mathlib.Core.Path.{_≡_};
 ghost use Prim.Native.Nat.{_^_, _<_};
 ghost use Rattle.walk.specs.Marks.{waits, withMark, withoutMark, lowest, deepest};
+use crate::LEVELS;
 
 // The number of slot s alone.
 fn power(s: u8) -> u16
@@ -48,10 +49,10 @@ pub(crate) fn lowest(m: u16) -> u8
 }
 
 // One more than the deepest level with a mark, or 0.
-pub(crate) fn deepest(marks: [u16; 16]) -> usize
+pub(crate) fn deepest(marks: [u16; LEVELS]) -> usize
     ensures { λ r. ⌜ r ≡ deepest marks ⌝ }
 {
-    let mut n = 16;
+    let mut n = LEVELS;
     while 0 < n {
         let level = n - 1;
         if marks[level] != 0 {

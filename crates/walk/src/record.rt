@@ -1,18 +1,22 @@
 // The walk's record: which ones are accepted, and each way in which it changes.
 ghost use mathlib.Core.Path.{_≡_};
-ghost use Prim.Native.Nat.{_^_, _≤_, _<_};
+ghost use Prim.Native.Nat.{_+_, _^_, _≤_, _<_};
+ghost use lib.ListN.{length};
 ghost use Rattle.walk.specs.Record.{maskLength, marksFit, isAccepted, ended, counted, marked, atNextSlot, openedMask, opened, started};
+use crate::LAST_LEVEL;
+use crate::LEVELS;
+use crate::MOST_ROUNDS;
 use crate::Walk;
 use crate::marks::deepest;
 use crate::marks::lowest;
 use crate::marks::with_mark;
 use crate::marks::without_mark;
 
-fn marks_fit(marks: [u16; 16], level: u8) -> bool
+fn marks_fit(marks: [u16; LEVELS], level: u8) -> bool
     ensures { λ r. ⌜ r ≡ marksFit marks level ⌝ }
 {
     let n = deepest(marks);
-    (n <= (level as usize) + 1) & (n < 16)
+    (n <= (level as usize) + 1) & (n < LEVELS)
 }
 
 // The unit of the digit above j digits.
@@ -40,7 +44,7 @@ impl Walk {
     {
         Walk {
             mask: 0,
-            marks: [0; 16],
+            marks: [0; LEVELS],
             rounds: 1,
             family: family,
             level: 0,
@@ -54,13 +58,13 @@ impl Walk {
     pub fn is_accepted(self) -> bool
         ensures { λ r. ⌜ r ≡ isAccepted self ⌝ }
     {
-        if 16 <= self.level {
+        if LAST_LEVEL < self.level {
             return false;
         }
         let numbers = (self.slot <= 15)
             & (self.count <= 64)
             & (1 <= self.rounds)
-            & (self.rounds <= 481);
+            & (self.rounds <= MOST_ROUNDS);
         if !numbers {
             return false;
         }
@@ -87,7 +91,7 @@ impl Walk {
     }
 
     pub(crate) fn marked(mut self) -> Walk
-        requires { ⌜ self .level < 16 ⌝ }
+        requires { ⌜ self .level < length (self .marks) ⌝ }
         requires { ⌜ self .slot < 16 ⌝ }
         ensures { λ r. ⌜ r ≡ marked self ⌝ }
     {
@@ -108,7 +112,7 @@ impl Walk {
 
     // Opens the lowest slot that waits at level j.
     pub(crate) fn opened(mut self, j: u8) -> Walk
-        requires { ⌜ j < 15 ⌝ }
+        requires { ⌜ j + 1 < length (self .marks) ⌝ }
         requires { ⌜ self .rounds < 65000 ⌝ }
         ensures { λ r. ⌜ r ≡ opened self j ⌝ }
     {

@@ -1,11 +1,13 @@
 -- `ask` keeps its promise: a refusal is told as minus its number, all else by its length, which is 14 at the most.
 -- By the two ways out. Assumes nothing.
-use mathlib.Core.Path.{ap, _∙_}
+use mathlib.Core.Path.{_≡_, ap, _∙_}
 use native.Mathlib.Omega.{arith}
 use borrow.Author.Needs.{needs, sfits-of}
 use lib.IntN.{pos}
+use lib.ListN.{length}
 use mir.Syntax.{w64}
 use mir.ValLaws.{toZ-ofZ, toZ-pos}
+use Rattle.walk.specs.Marks.{levels}
 use Rattle.board.proofs.WalkTold.{asks-refused, asks-served, length-served-most}
 use Rattle.board.proofs.in_place.ask.Statement.{statement}
 use Rattle.board.proofs.in_place.ask.Tie as tie
@@ -29,17 +31,23 @@ length-of-requires : tie.Need-length-of-requires
 length-of-requires c κs = search needs
 
 cast-result : tie.Need-cast-result
+unfolding levels
 cast-result c =
     let asked = c .before .before .before .before .before .ask in
-    sfits-of (omega (arith, c .length-of .ensures, length-served-most _ _ _ _ (asked .ensures) (c .before .if1 .left)))
+    let start = c .before .before .before .before .before .before .before .before in
+    let long : length (start .args .walk .marks) ≡ levels = search (needs, start .good) in
+    sfits-of (omega (arith, c .length-of .ensures, length-served-most _ _ _ _ (omega (arith, long)) (asked .ensures) (c .before .if1 .left)))
 
 same-length-2 : tie.Need-same-length-2
 same-length-2 c = search needs
 
 returns-2 : tie.Need-returns-2
+unfolding levels
 returns-2 c =
     let asked = c .before .before .before .before .before .ask in
-    let most = length-served-most _ _ _ _ (asked .ensures) (c .before .if1 .left) in
+    let start = c .before .before .before .before .before .before .before .before in
+    let long : length (start .args .walk .marks) ≡ levels = search (needs, start .good) in
+    let most = length-served-most _ _ _ _ (omega (arith, long)) (asked .ensures) (c .before .if1 .left) in
     asks-served _ _ _ _ _ (asked .ensures) (c .before .if1 .left)
     (toZ-pos w64 _ (omega (arith, c .length-of .ensures, most)) ∙ ap pos (c .length-of .ensures))
 

@@ -5,9 +5,12 @@ use Prim.Native.Nat.{_-_}
 use native.Mathlib.Omega.{arith}
 use borrow.Author.Needs.{needs}
 use lib.ListN.{length, take}
+use Rattle.walk.specs.Marks.{levels}
+use Rattle.walk.specs.Record.{mostSlots}
+use Rattle.row.proofs.Played.{slots-fit, still-few}
 use Rattle.picture.specs.Drawn.{heading}
 use Rattle.picture.proofs.Lengths.{length-twins}
-use Rattle.picture.proofs.Slots.{Drawing, wholeOf, endOf, drawing-none, drawing-room, drawing-more, drawing-over, dealt-most, drawn-puts, still-few}
+use Rattle.picture.proofs.Slots.{Drawing, wholeOf, endOf, drawing-none, drawing-room, drawing-more, drawing-over, dealt-most, drawn-puts}
 use Rattle.picture.proofs.Moves.{Fit, fresh-fit}
 use Rattle.picture.proofs.drawing.draw.Statement.{statement}
 use Rattle.picture.proofs.drawing.draw.Tie as tie
@@ -17,7 +20,7 @@ Inv-loop n out₀ at₀ row₀ desk₀ count₀ out at row desk count =
     (length out ≡ length out₀) × Drawing (wholeOf desk₀ (take n row₀)) (endOf desk₀ (take n row₀)) at₀ out₀ count desk (take n row) at out
 
 abbrev μ-loop : tie.MeasureT-loop
-μ-loop n out₀ at₀ row₀ desk₀ count₀ out at row desk count = 7696 - count
+μ-loop n out₀ at₀ row₀ desk₀ count₀ out at row desk count = mostSlots levels - count
 
 slice-aggregate-put : tie.Need-slice-aggregate-put Inv-loop μ-loop
 slice-aggregate-put c = refl
@@ -55,7 +58,7 @@ add-count : tie.Need-add-count Inv-loop μ-loop
 add-count c =
     let goes-on = c .before .before .before .before .before .before .before .before .goes-on in
     let if1 = c .before .before .before .before .before .before .before .if1 in
-    omega (arith, still-few _ _ (sym (goes-on .ensures) ∙ if1 .taken))
+    omega (arith, slots-fit, still-few _ _ (sym (goes-on .ensures) ∙ if1 .taken))
 
 loop-less : tie.Need-loop-less Inv-loop μ-loop
 loop-less c =

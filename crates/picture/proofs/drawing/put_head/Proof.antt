@@ -1,7 +1,10 @@
 -- `picture::drawing::put_head` meets its contract: nothing, or a number and a tail one after the other (Adding.antt). Assumes nothing.
+use mathlib.Core.Path.{_≡_}
 use native.Mathlib.Omega.{arith}
 use borrow.Author.Needs.{needs}
-use Rattle.walk.proofs.Limits.{accepted-of-is-accepted}
+use lib.ListN.{length}
+use Rattle.walk.specs.Marks.{levels}
+use Rattle.walk.proofs.Limits.{accepted-of-is-accepted, level-most, rounds-most}
 use Rattle.picture.proofs.Adding.{head-none, head-puts}
 use Rattle.picture.proofs.drawing.put_head.Statement.{statement}
 use Rattle.picture.proofs.drawing.put_head.Tie as tie
@@ -13,7 +16,11 @@ cast-round : tie.Need-cast-round
 cast-round c = search needs
 
 round-requires : tie.Need-round-requires
-round-requires c κs = omega (arith, accepted-of-is-accepted _ (c .before .before .before .before .pre .0) .last-round)
+unfolding levels
+round-requires c κs =
+    let start = c .before .before .before .before in
+    let long : length (start .args .walk .marks) ≡ levels = search (needs, start .good) in
+    omega (arith, rounds-most (accepted-of-is-accepted _ (start .pre .0)) (omega (arith, long)))
 
 slice-aggregate-put : tie.Need-slice-aggregate-put
 slice-aggregate-put c = search needs
@@ -25,9 +32,11 @@ cast-tail : tie.Need-cast-tail
 cast-tail c = search needs
 
 tail-requires : tie.Need-tail-requires
+unfolding levels
 tail-requires c κs =
-    let pre = c .before .before .before .before .before .before .before .before .before .before .before .pre in
-    omega (arith, accepted-of-is-accepted _ (pre .0) .level)
+    let start = c .before .before .before .before .before .before .before .before .before .before .before in
+    let long : length (start .args .walk .marks) ≡ levels = search (needs, start .good) in
+    omega (arith, level-most (accepted-of-is-accepted _ (start .pre .0)) (omega (arith, long)))
 
 slice-aggregate-put-2 : tie.Need-slice-aggregate-put-2
 slice-aggregate-put-2 c = search needs

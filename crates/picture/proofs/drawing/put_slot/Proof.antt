@@ -1,7 +1,10 @@
 -- `picture::drawing::put_slot` meets its contract: a head and a sign one after the other (Adding.antt). Assumes nothing.
+use mathlib.Core.Path.{_≡_}
 use native.Mathlib.Omega.{arith}
 use borrow.Author.Needs.{needs}
-use Rattle.walk.proofs.Limits.{accepted-of-is-accepted}
+use lib.ListN.{length}
+use Rattle.walk.specs.Marks.{levels}
+use Rattle.walk.proofs.Limits.{accepted-of-is-accepted, level-most}
 use Rattle.picture.proofs.Adding.{slot-puts}
 use Rattle.picture.proofs.Lengths.{head-most}
 use Rattle.picture.proofs.drawing.put_slot.Statement.{statement}
@@ -17,25 +20,29 @@ ends-line-requires : tie.Need-ends-line-requires
 ends-line-requires c κs = search needs
 
 put-sign-requires : tie.Need-put-sign-requires
+unfolding levels
 put-sign-requires c κs =
-    let args = c .before .before .before .before .before .before .before .before .args in
-    let pre = c .before .before .before .before .before .before .before .before .pre in
+    let start = c .before .before .before .before .before .before .before .before in
+    let long : length (start .args .walk .marks) ≡ levels = search (needs, start .good) in
+    let level = level-most (accepted-of-is-accepted _ (start .pre .0)) (omega (arith, long)) in
     let put-head = c .before .before .before .before .before .put-head in
-    omega (arith, put-head .ensures .next, head-most (args .walk) (accepted-of-is-accepted _ (pre .0) .level))
+    omega (arith, put-head .ensures .next, head-most (start .args .walk) level)
 
 same-length : tie.Need-same-length
 same-length c = search needs
 
 returns : tie.Need-returns
+unfolding levels
 returns c =
-    let args = c .before .before .before .before .before .before .before .before .before .before .before .args in
-    let pre = c .before .before .before .before .before .before .before .before .before .before .before .pre in
+    let start = c .before .before .before .before .before .before .before .before .before .before .before in
+    let long : length (start .args .walk .marks) ≡ levels = search (needs, start .good) in
+    let level = level-most (accepted-of-is-accepted _ (start .pre .0)) (omega (arith, long)) in
     let put-head = c .before .before .before .before .before .before .before .before .put-head in
     let sign = c .before .before .before .before .before .sign in
     let ends-line = c .before .before .before .before .ends-line in
     let put-sign = c .before .before .put-sign in
     slot-puts _ _ _ (sign .ensures) (ends-line .ensures) (put-head .ensures) (put-sign .ensures)
-    (omega (arith, put-head .ensures .next, head-most (args .walk) (accepted-of-is-accepted _ (pre .0) .level)))
+    (omega (arith, put-head .ensures .next, head-most (start .args .walk) level))
 
 pub put-slot-spec : {M : Type 1} → statement M
 put-slot-spec =

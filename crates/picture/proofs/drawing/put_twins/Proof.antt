@@ -1,6 +1,9 @@
 -- `picture::drawing::put_twins` meets its contract: nothing, or a word and a UID one after the other (Adding.antt). Assumes nothing.
+use mathlib.Core.Path.{_≡_}
 use native.Mathlib.Omega.{arith}
 use borrow.Author.Needs.{needs}
+use lib.ListN.{length}
+use Rattle.walk.specs.Marks.{levels}
 use Rattle.picture.proofs.Adding.{digit-above, twins-none, twins-puts}
 use Rattle.picture.proofs.drawing.put_twins.Statement.{statement}
 use Rattle.picture.proofs.drawing.put_twins.Tie as tie
@@ -18,10 +21,12 @@ cast-tail : tie.Need-cast-tail
 cast-tail c = search needs
 
 add-tail : tie.Need-add-tail
+unfolding levels
 add-tail c =
-    let args = c .before .before .before .before .before .before .before .before .before .before .before .args in
-    let pre = c .before .before .before .before .before .before .before .before .before .before .before .pre in
-    rw (digit-above _ (pre .0) .shifted) (omega (arith, digit-above (args .desk .walk) (pre .0) .fits))
+    let start = c .before .before .before .before .before .before .before .before .before .before .before in
+    let long : length (start .args .desk .walk .marks) ≡ levels = search (needs, start .good) in
+    let above = digit-above (start .args .desk .walk) (start .pre .0) (omega (arith, long)) in
+    rw (above .shifted) (omega (arith, above .fits))
 
 tail-requires : tie.Need-tail-requires
 tail-requires c κs = search needs
@@ -36,12 +41,15 @@ same-length : tie.Need-same-length
 same-length c = search needs
 
 returns-2 : tie.Need-returns-2
+unfolding levels
 returns-2 c =
-    let pre = c .before .before .before .before .before .before .before .before .before .before .before .before .before .before .before .before .before .pre in
+    let start = c .before .before .before .before .before .before .before .before .before .before .before .before .before .before .before .before .before in
+    let if1 = c .before .before .before .before .before .before .before .before .before .before .before .before .before .if1 in
+    let long : length (start .args .desk .walk .marks) ≡ levels = search (needs, start .good) in
     let put = c .before .before .before .before .before .before .before .before .before .before .put in
     let tail = c .before .before .before .before .before .tail in
     let put2 = c .before .before .put2 in
-    twins-puts _ (pre .0) (omega arith) (tail .ensures) (put .ensures) (put2 .ensures) (omega (arith, put .ensures .next))
+    twins-puts _ (start .pre .0) (omega (arith, long)) (if1 .left) (tail .ensures) (put .ensures) (put2 .ensures) (omega (arith, put .ensures .next))
 
 pub put-twins-spec : {M : Type 1} → statement M
 put-twins-spec =

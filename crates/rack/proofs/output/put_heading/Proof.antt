@@ -1,8 +1,11 @@
 -- `rack::output::put_heading` meets its contract: three lines, placed one after the other (Printed.antt). Assumes nothing.
 use borrow.Author.Needs.{needs}
+use mathlib.Core.Path.{_≡_}
 use Prim.Native.Nat.{_≤_}
 use native.Mathlib.Omega.{arith}
-use Rattle.walk.proofs.Limits.{accepted-of-is-accepted}
+use lib.ListN.{length}
+use Rattle.walk.specs.Marks.{levels}
+use Rattle.walk.proofs.Limits.{accepted-of-is-accepted, rounds-most}
 use Rattle.rack.proofs.Printed.{puts-heading}
 use Rattle.rack.proofs.output.put_heading.Statement.{statement}
 use Rattle.rack.proofs.output.put_heading.Tie as tie
@@ -17,9 +20,11 @@ cast-put-named : tie.Need-cast-put-named
 cast-put-named c = search needs
 
 put-named-requires : tie.Need-put-named-requires
+unfolding levels
 put-named-requires c κs =
-    let fits = accepted-of-is-accepted _ (c .before .before .before .before .before .before .before .before .pre .0) in
-    (omega (arith, fits .last-round), omega arith)
+    let start = c .before .before .before .before .before .before .before .before in
+    let long : length (start .args .walk .marks) ≡ levels = search (needs, start .good) in
+    (omega (arith, rounds-most (accepted-of-is-accepted _ (start .pre .0)) (omega (arith, long))), omega arith)
 
 slice-aggregate-put-named-2 : tie.Need-slice-aggregate-put-named-2
 slice-aggregate-put-named-2 c = search needs

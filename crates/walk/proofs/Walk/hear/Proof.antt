@@ -1,7 +1,9 @@
 -- `walk::Walk::hear` meets its contract: refused, or the slot judged and taken (HearWays.antt). Assumes nothing.
 use borrow.Author.Needs.{needs}
 use native.Mathlib.Omega.{arith}
+use mathlib.Core.Path.{_≡_}
 use lib.ListN.{length}
+use Rattle.walk.specs.Marks.{levels}
 use Rattle.walk.proofs.Limits.{accepted-of-is-accepted}
 use Rattle.walk.proofs.HearWays.{served-of-refusal, hears-refused, hears-served}
 use Rattle.walk.proofs.Walk.hear.Statement.{statement}
@@ -16,12 +18,14 @@ returns c =
     hears-refused (args .self) (args .kind) (args .bytes .now) (args .list .now) _ (c .before .refusal .ensures) (c .if1 .taken)
 
 judge-requires : tie.Need-judge-requires
+unfolding levels
 judge-requires c κs =
     let args = c .before .before .before .before .args in
     let refusal = c .before .refusal in
     let first = c .if1 in
     let served = served-of-refusal (args .self) (length (args .list .now)) _ (refusal .ensures) (first .left) in
-    accepted-of-is-accepted (args .self) (served .accepted) .level
+    let long : length (args .self .marks) ≡ levels = search needs in
+    omega (arith, long, accepted-of-is-accepted (args .self) (served .accepted) .level)
 
 take-requires : tie.Need-take-requires
 take-requires c κs =

@@ -2,6 +2,9 @@
 -- Assumes nothing.
 use borrow.Author.Needs.{needs}
 use native.Mathlib.Omega.{arith}
+use mathlib.Core.Path.{_≡_}
+use lib.ListN.{length}
+use Rattle.walk.specs.Marks.{levels}
 use Rattle.walk.specs.Record.{remade, openedAt, opened}
 use Rattle.walk.proofs.Levels.{lowest-is-slot}
 use Rattle.walk.proofs.Walk.opened.Statement.{statement}
@@ -11,7 +14,10 @@ mul-m : tie.Need-mul-m
 mul-m c = omega arith
 
 array-read-m : tie.Need-array-read-m
-array-read-m c = omega arith
+unfolding levels
+array-read-m c =
+    let long : length (c .before .args .self .marks) ≡ levels = search needs in
+    omega (arith, long)
 
 lowest-requires : tie.Need-lowest-requires
 lowest-requires c κs = search needs
@@ -23,16 +29,25 @@ mul-marks : tie.Need-mul-marks
 mul-marks c = omega arith
 
 array-write-marks : tie.Need-array-write-marks
-array-write-marks c = omega arith
+unfolding levels
+array-write-marks c =
+    let long : length (c .before .before .before .args .self .marks) ≡ levels = search needs in
+    omega (arith, long)
 
 opened-mask-requires : tie.Need-opened-mask-requires
-opened-mask-requires c κs = (c .before .before .before .pre .0, rw (c .before .lowest .ensures) (lowest-is-slot _))
+unfolding levels
+opened-mask-requires c κs =
+    let long : length (c .before .before .before .args .self .marks) ≡ levels = search needs in
+    (omega (arith, long), rw (c .before .lowest .ensures) (lowest-is-slot _))
 
 add-self : tie.Need-add-self
 add-self c = omega arith
 
 add-self-2 : tie.Need-add-self-2
-add-self-2 c = omega arith
+unfolding levels
+add-self-2 c =
+    let long : length (c .before .before .before .before .before .args .self .marks) ≡ levels = search needs in
+    omega (arith, long)
 
 returns : tie.Need-returns
 unfolding opened openedAt remade

@@ -2,7 +2,11 @@
 use borrow.Author.Needs.{needs}
 use borrow.Author.Tests.{lt-ltb, le-ltb}
 use native.Mathlib.Omega.{arith}
-use Rattle.walk.specs.Record.{places}
+use mathlib.Core.Path.{_≡_}
+use Prim.Native.Nat.{_+_}
+use lib.ListN.{length}
+use Rattle.walk.specs.Marks.{levels}
+use Rattle.walk.specs.Record.{places, levelsOf}
 use Rattle.walk.specs.Hear.{endsAtOnce}
 use Rattle.walk.proofs.hear.ends_at_once.Statement.{statement}
 use Rattle.walk.proofs.hear.ends_at_once.Tie as tie
@@ -21,20 +25,22 @@ unfolding endsAtOnce places
 returns c = rw (c .enum-told .given .1)
 
 returns-2 : tie.Need-returns-2
-unfolding endsAtOnce places
+unfolding levels endsAtOnce levelsOf
 returns-2 c =
     let enum-told2 = c .before .before .enum-told2 in
     let args = c .before .before .before .before .args in
     let first = c .if1 in
-    rw (enum-told2 .given .1, lt-ltb (args .walk .level) 15 (omega (arith, first .taken)))
+    let long : length (args .walk .marks) ≡ levels = search needs in
+    rw (enum-told2 .given .1, long, lt-ltb (args .walk .level + 1) levels (omega (arith, first .taken)))
 
 returns-3 : tie.Need-returns-3
-unfolding endsAtOnce places
+unfolding levels endsAtOnce levelsOf
 returns-3 c =
     let enum-told2 = c .before .before .enum-told2 in
     let args = c .before .before .before .before .args in
     let first = c .if1 in
-    rw (enum-told2 .given .1, le-ltb (args .walk .level) 15 (omega (arith, first .left)))
+    let long : length (args .walk .marks) ≡ levels = search needs in
+    rw (enum-told2 .given .1, long, le-ltb (args .walk .level + 1) levels (omega (arith, first .left)))
 
 returns-4 : tie.Need-returns-4
 unfolding endsAtOnce places

@@ -1,8 +1,12 @@
 -- `walk::hear::pass` meets its contract: the next slot, or after slot 15 complete, opened or overrun (HearWays.antt). Assumes nothing.
 use borrow.Author.Needs.{needs}
 use borrow.Author.Tests.{lt-ltb, le-ltb}
-use mathlib.Core.Path.{sym, _∙_}
+use mathlib.Core.Path.{_≡_, sym, _∙_}
+use lib.ListN.{length}
+use Prim.Native.Nat.{_≤_, _<_}
 use native.Mathlib.Omega.{arith}
+use Rattle.walk.specs.Marks.{levels}
+use Rattle.walk.specs.Record.{mostRounds}
 use Rattle.walk.specs.Hear.{passed}
 use Rattle.walk.proofs.HearWays.{turned-complete, turned-opened, turned-overrun}
 use Rattle.walk.proofs.hear.pass.Statement.{statement}
@@ -30,25 +34,36 @@ sub-opened : tie.Need-sub-opened
 sub-opened c = omega arith
 
 cast-opened : tie.Need-cast-opened
-cast-opened c = omega arith
+unfolding levels
+cast-opened c =
+    let long : length (c .before .before .before .before .before .before .before .args .walk .marks) ≡ levels = search needs in
+    omega (arith, long)
 
 opened-requires : tie.Need-opened-requires
-opened-requires c κs = search needs
+opened-requires c κs =
+    let n = c .before .before .before .deepest .ensures in
+    (omega (arith, n), omega arith)
 
 ended-requires-2 : tie.Need-ended-requires-2
 ended-requires-2 c κs = omega arith
 
 returns-3 : tie.Need-returns-3
-unfolding passed
+unfolding levels passed mostRounds
 returns-3 c =
+    let w = c .before .before .before .before .before .before .before .before .args .walk in
+    let long : length (w .marks) ≡ levels = search needs in
+    let few : w .rounds < mostRounds (length (w .marks)) = rw long (c .before .if3 .taken) in
     rw (le-ltb _ _ (c .before .before .before .before .before .before .if1 .left), ← (c .before .before .before .before .deepest .ensures))
-    (c .opened .ensures ∙ sym (turned-opened _ _ (c .before .before .before .if2 .left) (c .before .if3 .taken)))
+    (c .opened .ensures ∙ sym (turned-opened _ _ (c .before .before .before .if2 .left) few))
 
 returns-4 : tie.Need-returns-4
-unfolding passed
+unfolding levels passed mostRounds
 returns-4 c =
+    let w = c .before .before .before .before .before .before .before .before .args .walk in
+    let long : length (w .marks) ≡ levels = search needs in
+    let many : mostRounds (length (w .marks)) ≤ w .rounds = rw long (c .before .if3 .left) in
     rw (le-ltb _ _ (c .before .before .before .before .before .before .if1 .left), ← (c .before .before .before .before .deepest .ensures))
-    (c .ended2 .ensures ∙ sym (turned-overrun _ _ (c .before .before .before .if2 .left) (c .before .if3 .left)))
+    (c .ended2 .ensures ∙ sym (turned-overrun _ _ (c .before .before .before .if2 .left) many))
 
 pub pass-spec : {M : Type 1} → statement M
 pass-spec =

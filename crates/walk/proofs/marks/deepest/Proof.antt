@@ -1,5 +1,7 @@
 -- `walk::marks::deepest` meets its contract. The loop's invariant: the deepest of the first n levels is the deepest of all. Assumes nothing.
-use mathlib.Core.Path.{_≡_, refl, sym, _∙_}
+use borrow.Author.Needs.{needs}
+use mathlib.Core.Path.{_≡_, refl, sym, ap, _∙_}
+use lib.ListN.{length}
 use Prim.Native.Nat.{_≤_}
 use native.Mathlib.Omega.{arith}
 use Rattle.walk.specs.Marks.{levels, deepestOf, deepest}
@@ -8,25 +10,30 @@ use Rattle.walk.proofs.marks.deepest.Statement.{statement}
 use Rattle.walk.proofs.marks.deepest.Tie as tie
 
 abbrev Inv-loop : tie.InvT-loop
-Inv-loop marks n₀ n = (n ≤ 16) × (deepestOf marks n ≡ deepest marks)
+Inv-loop marks n₀ n = (n ≤ levels) × (deepestOf marks n ≡ deepest marks)
 
 abbrev μ-loop : tie.MeasureT-loop
 μ-loop marks n₀ n = n
 
 loop-holds : tie.Need-loop-holds Inv-loop μ-loop
 unfolding levels deepest
-loop-holds c = (omega arith, refl)
+loop-holds c =
+    let long : length (c .args .t1) ≡ levels = search needs in
+    (omega arith, ap (deepestOf (c .args .t1)) (sym long))
 
 sub-level : tie.Need-sub-level Inv-loop μ-loop
 sub-level c = omega arith
 
 mul-if1 : tie.Need-mul-if1 Inv-loop μ-loop
+unfolding levels
 mul-if1 c = omega arith
 
 array-read-if1 : tie.Need-array-read-if1 Inv-loop μ-loop
+unfolding levels
 array-read-if1 c = omega arith
 
 add-result : tie.Need-add-result Inv-loop μ-loop
+unfolding levels
 add-result c = omega arith
 
 returns : tie.Need-returns Inv-loop μ-loop

@@ -1,6 +1,8 @@
 -- `walk::record::marks_fit` meets its contract: the definition goes by the same two tests. Assumes nothing.
 use borrow.Author.Needs.{needs}
 use native.Mathlib.Omega.{arith}
+use mathlib.Core.Path.{_≡_}
+use lib.ListN.{length}
 use Rattle.walk.specs.Marks.{levels}
 use Rattle.walk.specs.Record.{marksFit}
 use Rattle.walk.proofs.record.marks_fit.Statement.{statement}
@@ -13,8 +15,10 @@ add-result : tie.Need-add-result
 add-result c = omega arith
 
 returns : tie.Need-returns
-unfolding marksFit levels
-returns c = rw (c .deepest .ensures)
+unfolding levels marksFit
+returns c =
+    let long : length (c .before .args .marks) ≡ levels = search needs in
+    rw (c .deepest .ensures, long)
 
 pub marks-fit-spec : {M : Type 1} → statement M
 marks-fit-spec = tie.close (tie.spec deepest-requires add-result returns)

@@ -44,6 +44,8 @@ use denote.Triple.Walked.{says, Stays, stay-none, walkOf, ends-at}
 use denote.Exit.{yes}
 use Rattle.card.specs.declared.Card.{Card}
 use Rattle.walk.specs.declared.Walk.{Walk}
+use Rattle.walk.specs.Marks.{levels}
+use Rattle.walk.specs.Record.{mostSlots}
 use Rattle.row.specs.declared.Air.{Air}
 use Rattle.row.specs.declared.Desk.{Desk}
 use Rattle.row.specs.Row.{deskAfter, HearsRow}
@@ -57,7 +59,7 @@ use Rattle.row.proofs.Desk as D°
 use Rattle.row.proofs.Desk.Laws as D′
 use Rattle.row.proofs.AtMost.{take-most}
 use Rattle.row.proofs.LocalRow.{local-whole}
-use Rattle.row.proofs.Played.{Playing, playing-slot, playing-over, still-few}
+use Rattle.row.proofs.Played.{slots-fit, Playing, playing-slot, playing-over, still-few}
 use Rattle.row.proofs.play.goes_on as goes-on
 use Rattle.row.proofs.play.goes_on.Symbol.{name as #goes-on}
 use Rattle.row.proofs.row.listen_row as listen-row
@@ -88,10 +90,10 @@ pub record Slots (us : List ℕ) (n : ℕ) : Type 0 where
   pub fits : Is D°.the-row desk (deskVals desk)
 
 abbrev pub nearer : (us : List ℕ) (n : ℕ) → Slots us n → Slots us n → Type 0
-nearer us n s t = 7696 - s .k < 7696 - t .k
+nearer us n s t = mostSlots levels - s .k < mostSlots levels - t .k
 
 pub nearer-wf : (us : List ℕ) (n : ℕ) → WellFounded (nearer us n)
-nearer-wf us n = InvImage·wf (λ (t : Slots us n). 7696 - t .k) (Nat·lt-wfRel .wf)
+nearer-wf us n = InvImage·wf (λ (t : Slots us n). mostSlots levels - t .k) (Nat·lt-wfRel .wf)
 
 abbrev pub test : (us : List ℕ) (n : ℕ) → Slots us n → Bool
 test us n t = goesOn (t .desk) (t .k)
@@ -144,7 +146,7 @@ module _ {M : Type 1} (𝓤 : URA M) (H : Heap 𝓤) (A : Atoms 𝓤) (W : Given
         rewrite ! 6 (λ (u : Val). ‵ (fat fullShare (ty 8) l₈ 0 u)) (ap only (bool-tells r _ is) ∙ ap vbool (is-test ∙ e)) refl $ drop ! $ goes))))
       where
         k-fits : t .k < 2 ^ 32
-        k-fits = let most : t .k ≤ 7696 = t .part .slots in omega (arith, most)
+        k-fits = omega (arith, t .part .slots, slots-fit)
 
     -- the turn that leaves the loop, and the rest of the body: the array is whole again
     ends : (t : St) → test (take n us) n t ≡ false → Sq W (At t) (runs (𝓣 .C) (𝓣 .Λ) En body.turn-1 (anyQ (Turned t)))
@@ -200,7 +202,7 @@ module _ {M : Type 1} (𝓤 : URA M) (H : Heap 𝓤) (A : Atoms 𝓤) (W : Given
         forget ! 4 refl $ forget ! 5 refl $ forget ! 6 refl $ forget ! 7 refl $
         again ! (nearer (take n us) n) At t (after air next (zs .0) h e long u is) closer)))))))))))))
       where
-        less : t .k < 7696
+        less : t .k < mostSlots levels
         less = still-few (t .desk) (t .k) on
 
         room : Room C°.the-row (length (t .cards))
@@ -219,9 +221,9 @@ module _ {M : Type 1} (𝓤 : URA M) (H : Heap 𝓤) (A : Atoms 𝓤) (W : Given
         air-fits air v is = subst (Is A°.the-row air) (LL.tells A°.the-type A′.the-laws air _ is) is
 
         next-fits : t .k + 1 < 2 ^ 32
-        next-fits = omega (arith, less)
+        next-fits = omega (arith, less, slots-fit)
 
-        closer : 7696 - (t .k + 1) < 7696 - t .k
+        closer : mostSlots levels - (t .k + 1) < mostSlots levels - t .k
         closer = omega (arith, less)
 
         after : (air : Air) (next : Desk) (left : List Card) → HearsRow (t .desk .walk) (t .cards) air left → next ≡ deskAfter (t .desk) air → length left ≡ length (t .cards) → (u : Val) → Is D°.the-row next (u ∷ []) → St
