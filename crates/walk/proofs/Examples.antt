@@ -1,5 +1,5 @@
--- 01's examples of the walk, by computation and by the tests of the definitions: the empty field, and the three numbers 481, 64 and 15.
--- Assumes nothing.
+-- 01's examples of the walk, by computation and by the tests of the definitions: the empty field, the three numbers 481, 64 and 15 of the
+-- endings, and number 10, rounds and slots of a walk of 16 levels. Assumes nothing.
 use mathlib.Core.Path.{_≡_, refl, ap, _∙_}
 use mathlib.Core.Bool.{true, _&&_}
 use mathlib.Core.List.{List, []}
