@@ -8,6 +8,9 @@ use Rattle.requests.proofs.request.tell.Tie as tie
 add-if1 : tie.Need-add-if1
 add-if1 c = search needs
 
+cast-if1 : tie.Need-cast-if1
+cast-if1 c = search needs
+
 answer-requires : tie.Need-answer-requires
 answer-requires c κs = search needs
 
@@ -26,4 +29,4 @@ returns-2 : tie.Need-returns-2
 returns-2 c = rw (le-ltb _ _ (c .before .if1 .left), c .fail .ensures) (made-answer (c .before .before .before .args .card) _)
 
 pub tell-spec : {M : Type 1} → statement M
-tell-spec = tie.close (tie.spec add-if1 answer-requires fail-requires returns returns-2)
+tell-spec = tie.close (tie.spec add-if1 cast-if1 answer-requires fail-requires returns returns-2)
