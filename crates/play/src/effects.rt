@@ -23,14 +23,7 @@ pub(crate) fn copy(from: &[u8], at: usize, n: usize, to: &mut [u8], place: usize
 }
 
 // Stores n blocks from the first on, one after another. Their data stand at a place of the frame.
-fn store_blocks(
-    frame: &[u8],
-    place: usize,
-    size: usize,
-    first: u32,
-    n: u32,
-    memory: &mut [u8],
-)
+fn store_blocks(frame: &[u8], place: usize, size: usize, first: u32, n: u32, memory: &mut [u8])
     requires { ⌜ place + n * size ≤ length (now frame) ⌝ }
     requires { ⌜ (first + n) * size ≤ length (now memory) ⌝ }
     ensures { λ _. ⌜ now (memory .exit) ≡ blocksStored (now (frame .entry)) place size first n (now (memory .entry)) ⌝ }

@@ -66,7 +66,15 @@ fn any_locked(locks: &[u8], first: u32, n: u32) -> bool
 }
 
 // An effect on n + 1 blocks, if they are the card's and all are open; the code is for a locked one.
-fn store(card: Card, locks: &[u8], option: bool, first: u32, n: u32, code: u8, effect: Effect) -> Verdict
+fn store(
+    card: Card,
+    locks: &[u8],
+    option: bool,
+    first: u32,
+    n: u32,
+    code: u8,
+    effect: Effect,
+) -> Verdict
     ensures { λ r. ⌜ made card r ≡ cond (ltb (first + n) (card .blocks)) (cond (anyLocked (now (locks .entry)) first (n + 1)) (failed option card code) (done option card effect)) (failed option card 0x10) ⌝ }
 {
     if (first as u64) + (n as u64) < (card.blocks as u64) {
@@ -248,14 +256,7 @@ fn perform(card: Card, locks: &[u8], option: bool, frame: &[u8], at: usize, comm
 }
 
 // The code of the first fault that comes before the table, or 00 for none.
-fn first_fault(
-    option: bool,
-    frame: &[u8],
-    at: usize,
-    command: u8,
-    body: usize,
-    size: u32,
-) -> u8
+fn first_fault(option: bool, frame: &[u8], at: usize, command: u8, body: usize, size: u32) -> u8
     ensures { λ r. ⌜ r ≡ faultOf option (now (frame .entry)) at command body size ⌝ }
 {
     if !is_listed(command) {

@@ -1,58 +1,56 @@
+-- `play::effects::store_blocks` meets its contract. The loop's invariant: i blocks are stored. The measure is how many are left.
+-- Assumes nothing.
+use native.Mathlib.Omega.{arith}
+use native.Mathlib.Numerals.{add-one}
+use mathlib.Core.Path.{_≡_, refl}
+use Prim.Native.Nat.{_-_, _≤_}
+use lib.ListN.{length}
+use Rattle.play.specs.Effects.{blocksStored}
+use Rattle.play.proofs.Stores.{source-within, store-within}
 use Rattle.play.proofs.effects.store_blocks.Statement.{statement}
 use Rattle.play.proofs.effects.store_blocks.Tie as tie
-use Rattle.play.proofs.effects.store_blocks.Reads as reads
-use Rattle.play.proofs.effects.store_blocks.Lts as lts
-use Rattle.play.proofs.effects.copy.Reads as copy-reads
 
 abbrev Inv-loop : tie.InvT-loop
-Inv-loop frame place size first n memory₀ start count i₀ memory i = ?
+Inv-loop frame place size first n memory₀ start count i₀ memory i =
+    (i ≤ n) × (length memory ≡ length memory₀) × (memory ≡ blocksStored frame place size first i memory₀)
 
 abbrev μ-loop : tie.MeasureT-loop
-μ-loop frame place size first n memory₀ start count i₀ memory i = ?
+μ-loop frame place size first n memory₀ start count i₀ memory i = n - i
 
--- src/effects.rt:41:5
 loop-holds : tie.Need-loop-holds Inv-loop μ-loop
-loop-holds c = ?
+unfolding blocksStored
+loop-holds c = (omega arith, refl, refl)
 
--- src/effects.rt:42:29
 mul-copy : tie.Need-mul-copy Inv-loop μ-loop
-mul-copy c = ?
+mul-copy c = omega (arith, source-within (c .before .before .before .before .args .place) (c .before .before .before .before .args .size) (c .before .before .before .before .args .n) (c .before .loop .i) (c .loop-test .taken) (c .before .before .before .before .pre .0))
 
--- src/effects.rt:42:21
 add-copy : tie.Need-add-copy Inv-loop μ-loop
-add-copy c = ?
+add-copy c = omega (arith, source-within (c .before .before .before .before .args .place) (c .before .before .before .before .args .size) (c .before .before .before .before .args .n) (c .before .loop .i) (c .loop-test .taken) (c .before .before .before .before .pre .0))
 
--- src/effects.rt:42:54
 add-copy-2 : tie.Need-add-copy-2 Inv-loop μ-loop
-add-copy-2 c = ?
+add-copy-2 c = omega arith
 
--- src/effects.rt:42:53
 mul-copy-2 : tie.Need-mul-copy-2 Inv-loop μ-loop
-mul-copy-2 c = ?
+mul-copy-2 c = omega (arith, store-within (c .before .before .before .before .before .args .size) (c .before .before .before .before .before .args .first) (c .before .before .before .before .before .args .n) (c .before .before .loop .i) (c .before .loop-test .taken) (c .before .before .before .before .before .pre .1))
 
--- src/effects.rt:42:9
 copy-requires : tie.Need-copy-requires Inv-loop μ-loop
-copy-requires c κs = ?
+copy-requires c κs = (source-within (c .before .before .before .before .before .args .place) (c .before .before .before .before .before .args .size) (c .before .before .before .before .before .args .n) (c .before .before .loop .i) (c .before .loop-test .taken) (c .before .before .before .before .before .pre .0), omega (arith, store-within (c .before .before .before .before .before .args .size) (c .before .before .before .before .before .args .first) (c .before .before .before .before .before .args .n) (c .before .before .loop .i) (c .before .loop-test .taken) (c .before .before .before .before .before .pre .1), c .before .before .loop .inv .1))
 
--- src/effects.rt:43:9
 add-i : tie.Need-add-i Inv-loop μ-loop
-add-i c = ?
+add-i c = omega arith
 
--- src/effects.rt:41:5
 loop-less : tie.Need-loop-less Inv-loop μ-loop
-loop-less c = ?
+loop-less c = omega arith
 
--- src/effects.rt:41:5
 loop-again : tie.Need-loop-again Inv-loop μ-loop
-loop-again c = ?
+unfolding blocksStored
+loop-again c = (omega arith, omega arith, rw (add-one, c .before .before .copy .ensures, ← (c .before .before .before .before .before .loop .inv .2)))
 
--- src/effects.rt:26:1
 same-length : tie.Need-same-length Inv-loop μ-loop
-same-length c = ?
+same-length c = omega arith
 
--- src/effects.rt:26:1
 returns : tie.Need-returns Inv-loop μ-loop
-returns c = ?
+returns c = let past : c .before .loop .i ≡ c .before .before .before .before .args .n = omega arith in rw past at (c .before .loop .inv .2)
 
 pub store-blocks-spec : {M : Type 1} → statement M
 store-blocks-spec =

@@ -88,12 +88,12 @@ returns-3 c = rw (← (c .before .before .before .number-at .ensures), c .before
 -- src/request.rt:175:1
 returns-4 : tie.Need-returns-4
 unfolding onBlocks reads writes locks-block tells-locks
-returns-4 c = let second = rw (c .before .before .before .before .width .ensures) at (c .before .before .number-at2 .ensures) in  rw (← (c .before .before .before .number-at .ensures), ← second, c .before .match .keys4) (c .tell2 .ensures)
+returns-4 c = let second = rw (c .before .before .before .before .width .ensures) at (c .before .before .number-at2 .ensures) in rw (← (c .before .before .before .number-at .ensures), ← second, c .before .match .keys4) (c .tell2 .ensures)
 
 -- src/request.rt:175:1
 returns-5 : tie.Need-returns-5
 unfolding onBlocks reads writes locks-block tells-locks
-returns-5 c = let second = rw (c .before .before .before .before .width .ensures) at (c .before .before .number-at2 .ensures) in  let command = c .before .before .before .before .before .before .before .args .command in let rest = c .before .match .rest in rw (ne-eqb command 0x20 (rest .0 .0 .0 .1), ne-eqb command 0x21 (rest .0 .0 .1), ne-eqb command 0x22 (rest .0 .1), ne-eqb command 0x23 (rest .1), ← (c .before .before .before .number-at .ensures), ← second) (c .tell3 .ensures)
+returns-5 c = let second = rw (c .before .before .before .before .width .ensures) at (c .before .before .number-at2 .ensures) in let command = c .before .before .before .before .before .before .before .args .command in let rest = c .before .match .rest in rw (ne-eqb command 0x20 (rest .0 .0 .0 .1), ne-eqb command 0x21 (rest .0 .0 .1), ne-eqb command 0x22 (rest .0 .1), ne-eqb command 0x23 (rest .1), ← (c .before .before .before .number-at .ensures), ← second) (c .tell3 .ensures)
 
 pub serve-blocks-spec : {M : Type 1} → statement M
 serve-blocks-spec =
