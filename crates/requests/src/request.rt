@@ -33,11 +33,18 @@ fn number_at(frame: &[u8], at: usize, command: u8) -> u16
     byte_at(frame, at) as u16
 }
 
+// Whether n + 1 blocks from the first on are the card's.
+fn has_blocks(card: Card, first: u32, n: u32) -> bool
+    ensures { λ r. ⌜ r ≡ ltb (first + n) (card .blocks) ⌝ }
+{
+    (first as u64) + (n as u64) < (card.blocks as u64)
+}
+
 // A reply on n + 1 blocks, if they are the card's.
 fn tell(card: Card, first: u32, n: u32, reply: Reply) -> Verdict
     ensures { λ r. ⌜ made card r ≡ cond (ltb (first + n) (card .blocks)) (deed card Effect.Leave reply) (fault card 0x10) ⌝ }
 {
-    if (first as u64) + (n as u64) < (card.blocks as u64) {
+    if has_blocks(card, first, n) {
         answer(reply)
     } else {
         fail(false, 0x10)
@@ -77,7 +84,7 @@ fn store(
 ) -> Verdict
     ensures { λ r. ⌜ made card r ≡ cond (ltb (first + n) (card .blocks)) (cond (anyLocked (now (locks .entry)) first (n + 1)) (failed option card code) (done option card effect)) (failed option card 0x10) ⌝ }
 {
-    if (first as u64) + (n as u64) < (card.blocks as u64) {
+    if has_blocks(card, first, n) {
         if any_locked(locks, first, n) {
             fail(option, code)
         } else {

@@ -22,19 +22,22 @@ unfolding blocksStored
 loop-holds c = (omega arith, refl, refl)
 
 mul-copy : tie.Need-mul-copy Inv-loop μ-loop
-mul-copy c = omega (arith, source-within (c .before .before .before .before .args .place) (c .before .before .before .before .args .size) (c .before .before .before .before .args .n) (c .before .loop .i) (c .loop-test .taken) (c .before .before .before .before .pre .0))
+mul-copy c = omega (arith, source-within (c .loop-test .taken) (c .before .before .before .before .pre .0))
 
 add-copy : tie.Need-add-copy Inv-loop μ-loop
-add-copy c = omega (arith, source-within (c .before .before .before .before .args .place) (c .before .before .before .before .args .size) (c .before .before .before .before .args .n) (c .before .loop .i) (c .loop-test .taken) (c .before .before .before .before .pre .0))
+add-copy c = omega (arith, source-within (c .loop-test .taken) (c .before .before .before .before .pre .0))
 
 add-copy-2 : tie.Need-add-copy-2 Inv-loop μ-loop
 add-copy-2 c = omega arith
 
 mul-copy-2 : tie.Need-mul-copy-2 Inv-loop μ-loop
-mul-copy-2 c = omega (arith, store-within (c .before .before .before .before .before .args .size) (c .before .before .before .before .before .args .first) (c .before .before .before .before .before .args .n) (c .before .before .loop .i) (c .before .loop-test .taken) (c .before .before .before .before .before .pre .1))
+mul-copy-2 c = omega (arith, store-within (c .before .loop-test .taken) (c .before .before .before .before .before .pre .1))
 
 copy-requires : tie.Need-copy-requires Inv-loop μ-loop
-copy-requires c κs = (source-within (c .before .before .before .before .before .args .place) (c .before .before .before .before .before .args .size) (c .before .before .before .before .before .args .n) (c .before .before .loop .i) (c .before .loop-test .taken) (c .before .before .before .before .before .pre .0), omega (arith, store-within (c .before .before .before .before .before .args .size) (c .before .before .before .before .before .args .first) (c .before .before .before .before .before .args .n) (c .before .before .loop .i) (c .before .loop-test .taken) (c .before .before .before .before .before .pre .1), c .before .before .loop .inv .1))
+copy-requires c κs =
+    let asked = c .before .before .before .before .before .pre in
+    let inside = store-within (c .before .loop-test .taken) (asked .1) in
+    (source-within (c .before .loop-test .taken) (asked .0), omega (arith, inside, c .before .before .loop .inv .1))
 
 add-i : tie.Need-add-i Inv-loop μ-loop
 add-i c = omega arith
@@ -44,13 +47,17 @@ loop-less c = omega arith
 
 loop-again : tie.Need-loop-again Inv-loop μ-loop
 unfolding blocksStored
-loop-again c = (omega arith, omega arith, rw (add-one, c .before .before .copy .ensures, ← (c .before .before .before .before .before .loop .inv .2)))
+loop-again c =
+    let loop = c .before .before .before .before .before .loop in
+    (omega arith, omega arith, rw (add-one, c .before .before .copy .ensures, ← (loop .inv .2)))
 
 same-length : tie.Need-same-length Inv-loop μ-loop
 same-length c = omega arith
 
 returns : tie.Need-returns Inv-loop μ-loop
-returns c = let past : c .before .loop .i ≡ c .before .before .before .before .args .n = omega arith in rw past at (c .before .loop .inv .2)
+returns c =
+    let past : c .before .loop .i ≡ c .before .before .before .before .args .n = omega arith in
+    rw past at (c .before .loop .inv .2)
 
 pub store-blocks-spec : {M : Type 1} → statement M
 store-blocks-spec =

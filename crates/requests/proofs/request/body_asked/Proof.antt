@@ -1,3 +1,4 @@
+-- `requests::request::body_asked` meets its contract: the definition goes by the same commands. Assumes nothing.
 use borrow.Author.Needs.{needs}
 use borrow.Author.Tests.{ne-eqb}
 use native.Mathlib.Omega.{arith}
@@ -5,65 +6,61 @@ use Rattle.requests.proofs.Blocks.{width-most}
 use Rattle.requests.specs.Request.{bodyAsked}
 use Rattle.requests.proofs.request.body_asked.Statement.{statement}
 use Rattle.requests.proofs.request.body_asked.Tie as tie
-use Rattle.requests.proofs.request.body_asked.Reads as reads
-use Rattle.requests.proofs.request.body_asked.Lts as lts
-use Rattle.requests.proofs.request.width.Reads as width-reads
 
--- src/request.rt:125:9
 width-requires : tie.Need-width-requires
 width-requires c κs = search needs
 
--- src/request.rt:128:17
 add-result : tie.Need-add-result
-add-result c = let small = width-most (c .before .before .before .args .command) in omega (arith, c .before .width .ensures, small)
+add-result c = omega (arith, c .before .width .ensures, width-most (c .before .before .before .args .command))
 
--- src/request.rt:130:17
 add-result-2 : tie.Need-add-result-2
-add-result-2 c = let small = width-most (c .before .before .before .args .command) in omega (arith, c .before .width .ensures, small)
+add-result-2 c = omega (arith, c .before .width .ensures, width-most (c .before .before .before .args .command))
 
--- src/request.rt:133:17
 add-result-3 : tie.Need-add-result-3
-add-result-3 c = let small = width-most (c .before .before .before .args .command) in omega (arith, c .before .width .ensures, small)
+add-result-3 c = omega (arith, c .before .width .ensures, width-most (c .before .before .before .args .command))
 
--- src/request.rt:122:1
 returns : tie.Need-returns
 unfolding bodyAsked
 returns c = rw (c .before .width .ensures, c .match .keys1)
 
--- src/request.rt:122:1
 returns-2 : tie.Need-returns-2
 unfolding bodyAsked
 returns-2 c = rw (c .before .width .ensures, c .match .keys2)
 
--- src/request.rt:122:1
 returns-3 : tie.Need-returns-3
 unfolding bodyAsked
 returns-3 c = rw (c .before .width .ensures, c .match .keys3)
 
--- src/request.rt:122:1
 returns-4 : tie.Need-returns-4
 unfolding bodyAsked
 returns-4 c = rw (c .before .width .ensures, c .match .keys4)
 
--- src/request.rt:122:1
 returns-5 : tie.Need-returns-5
 unfolding bodyAsked
 returns-5 c = rw (c .match .keys5)
 
--- src/request.rt:122:1
 returns-6 : tie.Need-returns-6
 unfolding bodyAsked
 returns-6 c = rw (c .match .keys6)
 
--- src/request.rt:122:1
 returns-7 : tie.Need-returns-7
 unfolding bodyAsked
 returns-7 c = rw (c .before .width .ensures, c .match .keys7)
 
--- src/request.rt:122:1
 returns-8 : tie.Need-returns-8
 unfolding bodyAsked
-returns-8 c = let command = c .before .before .before .args .command in let rest = c .match .rest in rw (ne-eqb command 0x20 (rest .0 .0 .0 .0 .0 .0 .1), ne-eqb command 0x21 (rest .0 .0 .0 .0 .0 .1), ne-eqb command 0x22 (rest .0 .0 .0 .0 .1), ne-eqb command 0x23 (rest .0 .0 .0 .1), ne-eqb command 0x27 (rest .0 .0 .1), ne-eqb command 0x29 (rest .0 .1), ne-eqb command 0x2c (rest .1))
+returns-8 c =
+    let command = c .before .before .before .args .command in
+    let rest = c .match .rest in
+    rw (
+      ne-eqb command 0x20 (rest .0 .0 .0 .0 .0 .0 .1),
+      ne-eqb command 0x21 (rest .0 .0 .0 .0 .0 .1),
+      ne-eqb command 0x22 (rest .0 .0 .0 .0 .1),
+      ne-eqb command 0x23 (rest .0 .0 .0 .1),
+      ne-eqb command 0x27 (rest .0 .0 .1),
+      ne-eqb command 0x29 (rest .0 .1),
+      ne-eqb command 0x2c (rest .1),
+    )
 
 pub body-asked-spec : {M : Type 1} → statement M
 body-asked-spec =
