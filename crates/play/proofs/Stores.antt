@@ -13,12 +13,12 @@ use Rattle.play.proofs.Copy.{length-part}
 use Rattle.play.proofs.Products.{block-within}
 
 -- the data of block i of n stand in the frame
-pub source-within : {place size n i frame : ℕ} → i < n → place + n * size ≤ frame → place + i * size + size ≤ frame
-source-within {place} {size} {n} {i} h k = omega (arith, block-within i n size h)
+pub source-within : (place size n i : ℕ) {frame : ℕ} → i < n → place + n * size ≤ frame → place + i * size + size ≤ frame
+source-within place size n i h k = omega (arith, block-within i n size h)
 
 -- and the block lies in memory
-pub store-within : {size first n i memory : ℕ} → i < n → (first + n) * size ≤ memory → (first + i) * size + size ≤ memory
-store-within {size} {first} {n} {i} h k =
+pub store-within : (size first n i : ℕ) {memory : ℕ} → i < n → (first + n) * size ≤ memory → (first + i) * size + size ≤ memory
+store-within size first n i h k =
     let inside : first + i < first + n = omega arith in
     omega (arith, block-within (first + i) (first + n) size inside)
 
@@ -28,8 +28,8 @@ unfolding blocksStored
 length-stored frame place size first zero memory h k = refl
 length-stored frame place size first (suc n) memory h k =
     let next : n < suc n = omega arith in
-    let source = source-within {place = place} {size = size} next h in
-    let inside = store-within {size = size} {first = first} next k in
+    let source = source-within place size (suc n) n next h in
+    let inside = store-within size first (suc n) n next k in
     let before : length (blocksStored frame place size first n memory) ≡ length memory =
     length-stored frame place size first n memory (omega (arith, source)) (omega (arith, inside)) in
     let part : length (take size (drop (place + n * size) frame)) ≡ size = length-part (place + n * size) size frame source in

@@ -22,22 +22,22 @@ unfolding blocksStored
 loop-holds c = (omega arith, refl, refl)
 
 mul-copy : tie.Need-mul-copy Inv-loop μ-loop
-mul-copy c = omega (arith, source-within (c .loop-test .taken) (c .before .before .before .before .pre .0))
+mul-copy c = omega (arith, source-within _ _ _ _ (c .loop-test .taken) (c .before .before .before .before .pre .0))
 
 add-copy : tie.Need-add-copy Inv-loop μ-loop
-add-copy c = omega (arith, source-within (c .loop-test .taken) (c .before .before .before .before .pre .0))
+add-copy c = omega (arith, source-within _ _ _ _ (c .loop-test .taken) (c .before .before .before .before .pre .0))
 
 add-copy-2 : tie.Need-add-copy-2 Inv-loop μ-loop
 add-copy-2 c = omega arith
 
 mul-copy-2 : tie.Need-mul-copy-2 Inv-loop μ-loop
-mul-copy-2 c = omega (arith, store-within (c .before .loop-test .taken) (c .before .before .before .before .before .pre .1))
+mul-copy-2 c = omega (arith, store-within _ _ _ _ (c .before .loop-test .taken) (c .before .before .before .before .before .pre .1))
 
 copy-requires : tie.Need-copy-requires Inv-loop μ-loop
 copy-requires c κs =
     let asked = c .before .before .before .before .before .pre in
-    let inside = store-within (c .before .loop-test .taken) (asked .1) in
-    (source-within (c .before .loop-test .taken) (asked .0), omega (arith, inside, c .before .before .loop .inv .1))
+    let inside = store-within _ _ _ _ (c .before .loop-test .taken) (asked .1) in
+    (source-within _ _ _ _ (c .before .loop-test .taken) (asked .0), omega (arith, inside, c .before .before .loop .inv .1))
 
 add-i : tie.Need-add-i Inv-loop μ-loop
 add-i c = omega arith
