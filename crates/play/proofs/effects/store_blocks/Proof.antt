@@ -36,8 +36,9 @@ mul-copy-2 c = omega (arith, store-within _ _ _ _ (c .before .loop-test .taken) 
 copy-requires : tie.Need-copy-requires Inv-loop μ-loop
 copy-requires c κs =
     let asked = c .before .before .before .before .before .pre in
+    let source = source-within _ _ _ _ (c .before .loop-test .taken) (asked .0) in
     let inside = store-within _ _ _ _ (c .before .loop-test .taken) (asked .1) in
-    (source-within _ _ _ _ (c .before .loop-test .taken) (asked .0), omega (arith, inside, c .before .before .loop .inv .1))
+    (omega (arith, source), omega (arith, inside, c .before .before .loop .inv .1))
 
 add-i : tie.Need-add-i Inv-loop μ-loop
 add-i c = omega arith
