@@ -2,7 +2,7 @@
 -- By induction over the bytes. Assumes nothing.
 use mathlib.Core.Path.{_≡_, refl, sym, ap, _∙_}
 use Prim.Native.Nat.{ℕ, zero, suc, _+_, _*_, _/_, _%_, _^_, _≤_, _<_, min}
-use native.Mathlib.Nat.{pow-suc}
+use native.Mathlib.Nat.{add-zero, pow-suc}
 use native.Mathlib.Numerals.{add-one}
 use native.Mathlib.Omega.{arith}
 use mathlib.Core.Bool.{Bool, true, false, cond}
@@ -93,6 +93,15 @@ field-of-fours frame at count =
     field-sum 8 part (rw length-take (omega arith))
     ∙ sum-same 8 (λ k. getD part k 0) (fieldByte frame at count) (λ k h. byte-of-field frame at count k h)
     ∙ omega arith
+
+-- a field of one byte is that byte, 0 past the end of the frame
+pub field-of-one : (frame : List ℕ) (at : ℕ) → fieldAt frame at 1 ≡ getD frame at 0
+unfolding fieldAt fieldOf
+field-of-one frame at = go (drop at frame) ∙ rw (getD-drop, add-zero)
+  where
+    go : (s : List ℕ) → fieldOf (take 1 s) ≡ getD s 0 0
+    go [] = refl
+    go (b ∷ s) = omega arith
 
 -- ---- of bytes
 

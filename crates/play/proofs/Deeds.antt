@@ -2,7 +2,7 @@
 -- a deed and the tests that lead to each. Assumes nothing.
 use mathlib.Core.Path.{_≡_, refl}
 use mathlib.Core.Bool.{Bool, true, false, cond}
-use Prim.Native.Nat.{ℕ, _+_, _≤_, _<_}
+use Prim.Native.Nat.{ℕ, _+_, _*_, _≤_, _<_}
 use native.Mathlib.Omega.{arith}
 use mathlib.Core.List.{List}
 use borrow.Author.Tests.{ltb-true, le-leb}
@@ -15,7 +15,7 @@ use Rattle.requests.specs.declared.Deed.{Deed}
 use Rattle.card.specs.Record.{remade, cleared}
 use Rattle.card.specs.Inventory.{inventoried}
 use Rattle.requests.specs.Frame.{decided}
-use Rattle.requests.specs.Request.{silent, fault, done, failed, isLocked, reads, writes, locks-block, tells-locks}
+use Rattle.requests.specs.Request.{silent, fault, done, failed, isLocked, anyLocked, reads, writes, locks-block, tells-locks}
 use Rattle.requests.specs.Request.{writes-afi, writes-dsfid, locks-afi, locks-dsfid}
 use Rattle.requests.proofs.Forms.{Forms, by-test, decided-forms}
 use Rattle.requests.proofs.Keeps.{decided-keeps}
@@ -70,12 +70,17 @@ module _ (card : Card) (frame : List ℕ) where
       by-test Inside (ltb (first + n) (card .blocks)) _ _
       (λ e. record { effect = refl; reply = le-leb (first + (n + 1)) (card .blocks) (within first n (card .blocks) e) }) (λ e. fault-inside c 0x10)
 
-  writes-inside : (locks : List ℕ) (option : Bool) (block place : ℕ) → place + c .size ≤ length frame → Inside (writes c locks option block place)
+  writes-inside : (locks : List ℕ) (option : Bool) (first n place : ℕ) → place + (n + 1) * c .size ≤ length frame
+      → Inside (writes c locks option first n place)
   unfolding writes cleared remade effectFits
-  writes-inside locks option block place h =
-      by-test Inside (ltb block (card .blocks)) _ _
-      (λ e. by-test Inside (isLocked locks block) _ _ (λ l. failed-inside c option 0x12)
-      (λ l. done-inside c option (Write block place) (rw (e, le-leb (place + card .size) (length frame) h))))
+  writes-inside locks option first n place h =
+      by-test Inside (ltb (first + n) (card .blocks)) _ _
+      (λ e. by-test Inside (anyLocked locks first (n + 1)) _ _ (λ l. failed-inside c option 0x12)
+      (λ l. done-inside c option (Write first (n + 1) place)
+      (rw (
+        le-leb (first + (n + 1)) (card .blocks) (within first n (card .blocks) e),
+        le-leb (place + (n + 1) * card .size) (length frame) h,
+      ))))
       (λ e. failed-inside c option 0x10)
 
   locks-inside : (locks : List ℕ) (option : Bool) (block : ℕ) → Inside (locks-block c locks option block)

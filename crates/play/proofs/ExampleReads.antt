@@ -10,7 +10,7 @@ use lib.ListN.{length, take, drop, getD}
 use Rattle.crc.specs.Check.{sealed, checkBytes}
 use Rattle.frames.specs.Flags.{flagsOf}
 use Rattle.frames.specs.Frame.{shortest, longest}
-use Rattle.frames.specs.Field.{fieldBytes}
+use Rattle.frames.specs.Field.{fieldOf, fieldAt, fieldBytes}
 use Rattle.frames.proofs.Sound.{sound-of-sealed}
 use Rattle.card.specs.declared.Card.{Card}
 use Rattle.card.specs.declared.Reply.{Reply}
@@ -18,7 +18,7 @@ use Rattle.card.specs.declared.Reply.the-variants.{Error, Blocks, Information}
 use Rattle.requests.specs.declared.Effect.the-variants.{Leave}
 use Rattle.card.specs.Record.{remade, cleared}
 use Rattle.requests.specs.Frame.{decided}
-use Rattle.requests.specs.Request.{deed, fault, reads, commanded, isListed, bodyAsked, refusesOption, bodyLength, judged, sorted, unaddressed, requested}
+use Rattle.requests.specs.Request.{deed, fault, reads, width, commanded, isListed, bodyAsked, refusesOption, bodyLength, judged, sorted, unaddressed, requested}
 use Rattle.play.specs.Answer.{blockOf, blockRead, blocksRead, information, replyBytes}
 use Rattle.play.specs.Events.{replied, frameEvent}
 use Rattle.play.specs.Examples.{Listens, speech}
@@ -51,17 +51,17 @@ module _ (c : Card) (memory locks found : List ℕ) (listens : Listens c memory 
   request-judged false command body few a b = rw (sound-of-sealed (0x02 ∷ command ∷ body) (omega arith) (omega arith), listens .heard, a, b)
 
   information-decided : decided c locks (sealed (0x02 ∷ 0x2b ∷ [])) ≡ deed (cleared c) Leave Information
-  unfolding judged commanded isListed bodyAsked refusesOption bodyLength flagsOf sealed checkBytes
+  unfolding judged commanded width isListed bodyAsked refusesOption bodyLength fieldAt fieldOf flagsOf sealed checkBytes
   information-decided = request-judged false 0x2b [] (omega arith) refl refl
 
   read-decided : (option : Bool) → c .blocks ≡ 32
       → decided c locks (sealed (flags option ∷ 0x23 ∷ 0x1f ∷ 0x00 ∷ [])) ≡ deed (cleared c) Leave (Blocks 31 1 option)
-  unfolding judged commanded reads isListed bodyAsked refusesOption bodyLength flagsOf sealed checkBytes cleared remade
+  unfolding judged commanded reads width isListed bodyAsked refusesOption bodyLength fieldAt fieldOf flagsOf sealed checkBytes cleared remade
   read-decided true b = request-judged true 0x23 (0x1f ∷ 0x00 ∷ []) (omega arith) refl refl ∙ rw b
   read-decided false b = request-judged false 0x23 (0x1f ∷ 0x00 ∷ []) (omega arith) refl refl ∙ rw b
 
   past-decided : c .blocks ≡ 32 → decided c locks (sealed (0x02 ∷ 0x23 ∷ 0x1f ∷ 0x01 ∷ [])) ≡ fault (cleared c) 0x10
-  unfolding judged commanded reads isListed bodyAsked refusesOption bodyLength flagsOf sealed checkBytes cleared remade
+  unfolding judged commanded reads width isListed bodyAsked refusesOption bodyLength fieldAt fieldOf flagsOf sealed checkBytes cleared remade
   past-decided b = request-judged false 0x23 (0x1f ∷ 0x01 ∷ []) (omega arith) refl refl ∙ rw b
 
   -- ---- 32 blocks of 4

@@ -1,6 +1,7 @@
 pub mod Products
 pub mod Locks
 pub mod Copy
+pub mod Stores
 pub mod Within
 pub mod Answers
 pub mod Blocks

@@ -54,7 +54,7 @@ module _ (card c : Card) (same : Kept card c) where
   effect-shape : (frame : List ℕ) (e : Effect) → effectFits card frame e ≡ true → effectFits c frame e ≡ true
   unfolding effectFits
   effect-shape frame Leave h = refl
-  effect-shape frame (Write block place) h = rw (same .blocks, same .size) h
+  effect-shape frame (Write first n place) h = rw (same .blocks, same .size) h
   effect-shape frame (Lock block) h = rw (same .blocks) h
 
   reply-shape : (r : Reply) → replyFits card r ≡ true → replyFits c r ≡ true

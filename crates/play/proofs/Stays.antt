@@ -6,10 +6,9 @@ use Prim.Native.Nat.{ℕ, zero, suc, _+_, _*_, _≤_}
 use native.Mathlib.Omega.{arith}
 use mathlib.Core.List.{List, [], _∷_}
 use lib.Dec.{eqb, leb}
-use lib.ListN.{length, take, drop, set, length-set, length-drop}
-use lib.Seq.{length-take-le}
+use lib.ListN.{length, set, length-set}
 use Rattle.lent.specs.Lent.{over}
-use Rattle.lent.proofs.Over.{length-over, length-placed}
+use Rattle.lent.proofs.Over.{length-over}
 use Rattle.crc.specs.Check.{sealed}
 use Rattle.crc.proofs.Seal.{length-sealed}
 use Rattle.card.specs.declared.Card.{Card}
@@ -31,6 +30,7 @@ use Rattle.play.specs.Fits.{effectFits, replyFits, Kept}
 use Rattle.play.specs.Steps.{DeedReady}
 use Rattle.play.specs.Events.{answered, Outcome, replied, event, carriedOut, frameEvent, markEvent, offEvent, AcceptedNext}
 use Rattle.play.proofs.Within.{Written, write-within}
+use Rattle.play.proofs.Stores.{length-stored}
 use Rattle.play.proofs.Room.{reply-room}
 use Rattle.play.proofs.Kept.{self-kept, kept-changes}
 use Rattle.play.proofs.Turns.{marked-brief}
@@ -53,17 +53,15 @@ length-memory : (c : Card) (frame memory : List ℕ) (e : Effect) → effectFits
     → length (memoryAfter c frame memory e) ≡ length memory
 unfolding memoryAfter
 length-memory c frame memory Leave fits is = refl
-length-memory c frame memory (Write block place) fits is =
-    let w : Written c frame block place = write-within {c = c} {frame = frame} refl fits in
-    let rest : c .size ≤ length (drop place frame) = rw (length-drop place frame) (omega (arith, w .source)) in
-    let stored : length (take (c .size) (drop place frame)) ≡ c .size = length-take-le (c .size) (drop place frame) rest in
-    length-placed (block * c .size) (take (c .size) (drop place frame)) memory (omega (arith, w .inside))
+length-memory c frame memory (Write first n place) fits is =
+    let w : Written c frame first n place = write-within {c = c} {frame = frame} refl fits in
+    length-stored frame place (c .size) first n memory (w .source) (rw is (w .inside))
 length-memory c frame memory (Lock block) fits is = refl
 
 length-locks : (locks : List ℕ) (e : Effect) → length (locksAfter locks e) ≡ length locks
 unfolding locksAfter
 length-locks locks Leave = refl
-length-locks locks (Write block place) = refl
+length-locks locks (Write first n place) = refl
 length-locks locks (Lock block) = length-set locks block 1
 
 set-fits : (locks : List ℕ) (block : ℕ) → locksFit locks ≡ true → locksFit (set locks block 1) ≡ true
@@ -77,7 +75,7 @@ set-fits (b ∷ locks) (suc block) e =
 locks-fit : (locks : List ℕ) (e : Effect) → locksFit locks ≡ true → locksFit (locksAfter locks e) ≡ true
 unfolding locksAfter
 locks-fit locks Leave h = h
-locks-fit locks (Write block place) h = h
+locks-fit locks (Write first n place) h = h
 locks-fit locks (Lock block) h = set-fits locks block h
 
 -- ---- what an event makes of the four tests

@@ -3,8 +3,9 @@ use mathlib.Core.Path.{_≡_}
 use mathlib.Core.Bool.{Bool, true, and-eq-true-iff}
 use mathlib.Core.List.{List}
 use Prim.Native.Nat.{ℕ, _+_, _*_, _≤_, _<_}
+use native.Mathlib.Nat.{mul-le-mul-right}
 use borrow.Author.Tests.{leb-true, ltb-true}
-use lib.Dec.{leb, ltb}
+use lib.Dec.{leb}
 use lib.ListN.{length}
 use Rattle.card.specs.declared.Card.{Card}
 use Rattle.requests.specs.declared.Effect.{Effect}
@@ -12,21 +13,20 @@ use Rattle.requests.specs.declared.Effect.the-variants.{Write, Lock}
 use Rattle.card.specs.declared.Reply.{Reply}
 use Rattle.card.specs.declared.Reply.the-variants.{Blocks, Status}
 use Rattle.play.specs.Fits.{effectFits, replyFits}
-use Rattle.play.proofs.Products.{block-within}
 
--- a write has its block in memory and its data in the frame
-pub record Written (c : Card) (frame : List ℕ) (block place : ℕ) : Type 0 where
-  pub inside : block * c .size + c .size ≤ c .blocks * c .size
-  pub source : place + c .size ≤ length frame
+-- a write has its blocks in memory and its data in the frame
+pub record Written (c : Card) (frame : List ℕ) (first n place : ℕ) : Type 0 where
+  pub inside : (first + n) * c .size ≤ c .blocks * c .size
+  pub source : place + n * c .size ≤ length frame
 
-pub write-within : {c : Card} {frame : List ℕ} {e : Effect} {block place : ℕ} → e ≡ Write block place → effectFits c frame e ≡ true
-    → Written c frame block place
+pub write-within : {c : Card} {frame : List ℕ} {e : Effect} {first n place : ℕ} → e ≡ Write first n place → effectFits c frame e ≡ true
+    → Written c frame first n place
 unfolding effectFits
-write-within {c} {frame} {e} {block} {place} is fits =
-    let both = and-eq-true-iff (ltb block (c .blocks)) (leb (place + c .size) (length frame)) .0 (rw is at fits) in
+write-within {c} {frame} {e} {first} {n} {place} is fits =
+    let both = and-eq-true-iff (leb (first + n) (c .blocks)) (leb (place + n * c .size) (length frame)) .0 (rw is at fits) in
     record {
-      inside = block-within block (c .blocks) (c .size) (ltb-true block (c .blocks) (both .0));
-      source = leb-true (place + c .size) (length frame) (both .1);
+      inside = mul-le-mul-right (c .size) (leb-true (first + n) (c .blocks) (both .0));
+      source = leb-true (place + n * c .size) (length frame) (both .1);
     }
 
 -- a lock has its block among the lock bytes

@@ -1,5 +1,5 @@
 -- Effects and replies that stay within the card's shape: those that the rules decide on for an accepted card.
-use Prim.Native.Nat.{ℕ, _+_}
+use Prim.Native.Nat.{ℕ, _+_, _*_}
 use mathlib.Core.Bool.{Bool, true, _&&_}
 use mathlib.Core.List.{List}
 use mathlib.Core.Path.{_≡_}
@@ -12,10 +12,10 @@ use Rattle.requests.specs.declared.Effect.the-variants.{Leave, Write, Lock}
 use Rattle.card.specs.declared.Reply.{Reply}
 use Rattle.card.specs.declared.Reply.the-variants.{Silence, Error, Done, Present, Blocks, Status, Information}
 
--- the block is one of the card's, and the data stand in the frame
+-- the blocks are the card's, and the data stand in the frame
 unfoldable pub effectFits : Card → List ℕ → Effect → Bool
 effectFits c frame Leave = true
-effectFits c frame (Write block place) = ltb block (c .blocks) && leb (place + c .size) (length frame)
+effectFits c frame (Write first n place) = leb (first + n) (c .blocks) && leb (place + n * c .size) (length frame)
 effectFits c frame (Lock block) = ltb block (c .blocks)
 
 -- the blocks are the card's

@@ -5,7 +5,7 @@ ghost use Prim.Native.Nat.{_+_, _*_, _≤_};
 ghost use lib.ListN.{length, take, drop};
 ghost use Rattle.lent.specs.Lent.{placed};
 ghost use Rattle.play.specs.Fits.{effectFits};
-ghost use Rattle.play.specs.Effects.{memoryAfter, locksAfter};
+ghost use Rattle.play.specs.Effects.{blocksStored, memoryAfter, locksAfter};
 use card::Card;
 use requests::Effect;
 
@@ -22,7 +22,22 @@ pub(crate) fn copy(from: &[u8], at: usize, n: usize, to: &mut [u8], place: usize
     }
 }
 
-// Writes the block, or locks it, as the effect is.
+// Stores n blocks from the first on, one after another. Their data stand at a place of the frame.
+fn store_blocks(frame: &[u8], place: usize, size: usize, first: u32, n: u32, memory: &mut [u8])
+    requires { ⌜ place + n * size ≤ length (now frame) ⌝ }
+    requires { ⌜ (first + n) * size ≤ length (now memory) ⌝ }
+    ensures { λ _. ⌜ now (memory .exit) ≡ blocksStored (now (frame .entry)) place size first n (now (memory .entry)) ⌝ }
+{
+    let start = first as usize;
+    let count = n as usize;
+    let mut i = 0;
+    while i < count {
+        copy(frame, place + i * size, size, memory, (start + i) * size);
+        i += 1;
+    }
+}
+
+// Writes the blocks, or locks the one, as the effect is.
 pub(crate) fn take_effect(
     card: Card,
     frame: &[u8],
@@ -38,8 +53,8 @@ pub(crate) fn take_effect(
     let size = card.size as usize;
     match effect {
         Effect::Leave => {}
-        Effect::Write(block, place) => {
-            copy(frame, place as usize, size, memory, (block as usize) * size);
+        Effect::Write(first, n, place) => {
+            store_blocks(frame, place as usize, size, first, n, memory);
         }
         Effect::Lock(block) => {
             locks[block as usize] = 1;

@@ -2,7 +2,7 @@
 -- frames. Assumes nothing.
 use mathlib.Core.Path.{_≡_, refl, _∙_}
 use mathlib.Core.Bool.{Bool, true, false, cond, not, _&&_, _||_}
-use Prim.Native.Nat.{ℕ, _+_, _-_, _≤_}
+use Prim.Native.Nat.{ℕ, _+_, _-_, _*_, _≤_}
 use native.Mathlib.Omega.{arith}
 use mathlib.Core.List.{List}
 use borrow.Author.Tests.{eqb-true}
@@ -22,7 +22,8 @@ use Rattle.requests.specs.declared.Effect.the-variants.{Leave}
 use Rattle.requests.specs.declared.Deed.{Deed}
 use Rattle.requests.specs.Frame.{leaving, decided}
 use Rattle.requests.specs.Request.{deed, silent, fault, failed, reads, writes, locks-block, tells-locks, writes-afi, writes-dsfid, locks-afi, locks-dsfid, commanded}
-use Rattle.requests.specs.Request.{isListed, bodyAsked, refusesOption, holdsAnswer, bodyLength, judged, quieted, sorted, passedBy, addressed, unaddressed, requested}
+use Rattle.requests.proofs.Blocks.{width-least}
+use Rattle.requests.specs.Request.{width, isListed, bodyAsked, refusesOption, holdsAnswer, bodyLength, judged, quieted, sorted, passedBy, addressed, unaddressed, requested}
 
 -- the forms, for a cleared card c; a place is one in the frame
 pub record Forms (P : Deed → Type 0) (c : Card) (locks frame : List ℕ) : Type 0 where
@@ -34,7 +35,7 @@ pub record Forms (P : Deed → Type 0) (c : Card) (locks frame : List ℕ) : Typ
   pub selects : (m : Mode) → P (deed (inMode m c) Leave Done)
   pub informs : P (deed c Leave Information)
   pub reading : (option : Bool) (first n : ℕ) → P (reads c option first n)
-  pub writing : (option : Bool) (block place : ℕ) → place + c .size ≤ length frame → P (writes c locks option block place)
+  pub writing : (option : Bool) (first n place : ℕ) → place + (n + 1) * c .size ≤ length frame → P (writes c locks option first n place)
   pub locking : (option : Bool) (block : ℕ) → P (locks-block c locks option block)
   pub status : (first n : ℕ) → P (tells-locks c first n)
   pub afi : (option : Bool) (place : ℕ) → P (writes-afi c option (getD frame place 0))
@@ -49,12 +50,12 @@ module _ (P : Deed → Type 0) where
   by-test false x y p q = q refl
 
   module _ (c : Card) (locks frame : List ℕ) (h : Forms P c locks frame) where
-    by-command : (option : Bool) (at command : ℕ) → (command ≡ 0x21 → at + 1 + c .size ≤ length frame) → P (commanded c locks option frame at command)
+    by-command : (option : Bool) (at command : ℕ) → (command ≡ 0x21 → at + width command + c .size ≤ length frame) → P (commanded c locks option frame at command)
     unfolding commanded
     by-command option at command data-there =
         by-test (eqb command 0x20) _ _ (λ e. h .reading option _ _) (λ e.
-        by-test (eqb command 0x21) _ _ (λ e. h .writing option (getD frame at 0) (at + 1) (data-there (eqb-true command 0x21 e))) (λ e.
-        by-test (eqb command 0x22) _ _ (λ e. h .locking option (getD frame at 0)) (λ e.
+        by-test (eqb command 0x21) _ _ (λ e. h .writing option _ 0 _ (omega (arith, data-there (eqb-true command 0x21 e)))) (λ e.
+        by-test (eqb command 0x22) _ _ (λ e. h .locking option _) (λ e.
         by-test (eqb command 0x23) _ _ (λ e. h .reading option _ _) (λ e.
         by-test (eqb command 0x25) _ _ (λ e. h .selects Selected) (λ e.
         by-test (eqb command 0x26) _ _ (λ e. h .selects Ready) (λ e.
@@ -65,21 +66,23 @@ module _ (P : Deed → Type 0) where
         by-test (eqb command 0x2b) _ _ (λ e. h .informs) (λ e.
         h .status _ _)))))))))))
 
-    asked-21 : (command : ℕ) → command ≡ 0x21 → bodyAsked command (c .size) ≡ 1 + c .size
+    asked-21 : (at command : ℕ) → command ≡ 0x21 → bodyAsked frame at command (c .size) ≡ width command + c .size
     unfolding bodyAsked
-    asked-21 command e = rw e
+    asked-21 at command e = rw e
 
-    data-stands : (at command : ℕ) → eqb (bodyLength frame at) (bodyAsked command (c .size)) ≡ true → command ≡ 0x21 → at + 1 + c .size ≤ length frame
+    data-stands : (at command : ℕ) → eqb (bodyLength frame at) (bodyAsked frame at command (c .size)) ≡ true → command ≡ 0x21
+        → at + width command + c .size ≤ length frame
     unfolding bodyLength
     data-stands at command e k =
-        let n : length frame - (at + 2) ≡ 1 + c .size = eqb-true (length frame - (at + 2)) (bodyAsked command (c .size)) e ∙ asked-21 command k in
-        omega arith
+        let n : length frame - (at + 2) ≡ width command + c .size =
+        eqb-true (length frame - (at + 2)) (bodyAsked frame at command (c .size)) e ∙ asked-21 at command k in
+        omega (arith, width-least command)
 
     by-fault : (f : Flags) (at command : ℕ) → P (judged c locks f frame at command)
     unfolding judged
     by-fault f at command =
         by-test (isListed command) _ _
-        (λ l. by-test (eqb (bodyLength frame at) (bodyAsked command (c .size))) _ _
+        (λ l. by-test (eqb (bodyLength frame at) (bodyAsked frame at command (c .size))) _ _
         (λ b. by-test (f .b7 && refusesOption command) _ _ (λ o. h .faulty 0x03) (λ o. by-command (f .b7) at command (data-stands at command b)))
         (λ b. h .wrong-body (f .b7 && holdsAnswer command)))
         (λ l. h .faulty 0x01)

@@ -13,7 +13,7 @@ use Rattle.requests.specs.declared.Effect.{Effect}
 use Rattle.requests.specs.declared.Effect.the-variants.{Leave}
 use Rattle.requests.specs.declared.Deed.{Deed}
 use Rattle.requests.specs.Frame.{decided}
-use Rattle.requests.specs.Request.{done, failed, isLocked, reads, writes, locks-block, tells-locks, writes-afi, writes-dsfid, locks-afi, locks-dsfid}
+use Rattle.requests.specs.Request.{done, failed, isLocked, anyLocked, reads, writes, locks-block, tells-locks, writes-afi, writes-dsfid, locks-afi, locks-dsfid}
 use Rattle.requests.proofs.Forms.{Forms, by-test, decided-forms}
 
 module _ {Q : Card → Type 0} {frame : List ℕ} (change : Changes Q frame) where
@@ -39,11 +39,11 @@ module _ {Q : Card → Type 0} {frame : List ℕ} (change : Changes Q frame) whe
     unfolding tells-locks
     tells-keeps first n = by-test After (ltb (first + n) (c .blocks)) _ _ (λ e. q) (λ e. q)
 
-    writes-keeps : (option : Bool) (block place : ℕ) → After (writes c locks option block place)
+    writes-keeps : (option : Bool) (first n place : ℕ) → After (writes c locks option first n place)
     unfolding writes heldFits
-    writes-keeps option block place =
-        by-test After (ltb block (c .blocks)) _ _
-        (λ e. by-test After (isLocked locks block) _ _ (λ l. failed-keeps c q option 0x12 refl) (λ l. done-keeps c q option _))
+    writes-keeps option first n place =
+        by-test After (ltb (first + n) (c .blocks)) _ _
+        (λ e. by-test After (anyLocked locks first (n + 1)) _ _ (λ l. failed-keeps c q option 0x12 refl) (λ l. done-keeps c q option _))
         (λ e. failed-keeps c q option 0x10 refl)
 
     locks-keeps : (option : Bool) (block : ℕ) → After (locks-block c locks option block)
@@ -89,7 +89,7 @@ module _ {Q : Card → Type 0} {frame : List ℕ} (change : Changes Q frame) whe
           selects = change .modes c q;
           informs = q;
           reading = reads-keeps;
-          writing = λ option block place h. writes-keeps option block place;
+          writing = λ option first n place h. writes-keeps option first n place;
           locking = locks-keeps;
           status = tells-keeps;
           afi = afi-keeps;

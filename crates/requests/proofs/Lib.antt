@@ -1,3 +1,4 @@
+pub mod Blocks
 pub mod Verdicts
 pub mod Modes
 pub mod Rules

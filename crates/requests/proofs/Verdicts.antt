@@ -62,12 +62,12 @@ made-turned c false mode = refl
 
 -- step 6 by the code of the first fault
 pub judged-by : (c : Card) (locks : List ℕ) (f : Flags) (frame : List ℕ) (at command : ℕ) {body code : ℕ}
-    → body ≡ bodyLength frame at → code ≡ faultOf (f .b7) command body (c .size)
+    → body ≡ bodyLength frame at → code ≡ faultOf (f .b7) frame at command body (c .size)
     → judged c locks f frame at command
     ≡ cond (eqb code 0) (commanded c locks (f .b7) frame at command) (failed (eqb code 2 && (f .b7 && holdsAnswer command)) c code)
 unfolding judged faultOf failed
 judged-by c locks f frame at command b e =
-    rw (e, b) (go (isListed command) (eqb (bodyLength frame at) (bodyAsked command (c .size))) (f .b7 && refusesOption command))
+    rw (e, b) (go (isListed command) (eqb (bodyLength frame at) (bodyAsked frame at command (c .size))) (f .b7 && refusesOption command))
   where
     x : Deed
     x = commanded c locks (f .b7) frame at command

@@ -1,7 +1,7 @@
 -- 01, The card, steps 4 to 6, where b3=0. A definition stands before its use, so the page runs backwards here: read from the end up, step 4
 -- (`requested`, `addressed`, `unaddressed`, `passedBy`), step 5 (`sorted`, `quieted`), step 6 (`judged`, with `isListed`, `bodyAsked`,
 -- `refusesOption`), then the table (`commanded`, and each command by its name).
-use Prim.Native.Nat.{ℕ, _+_, _-_}
+use Prim.Native.Nat.{ℕ, zero, suc, _+_, _-_}
 use mathlib.Core.Bool.{Bool, true, false, cond, not, _&&_, _||_}
 use mathlib.Core.List.{List}
 use lib.Dec.{leb, ltb, eqb}
@@ -42,14 +42,21 @@ failed false c code = fault c code
 unfoldable pub isLocked : List ℕ → ℕ → Bool
 isLocked locks block = not (eqb (getD locks block 0) 0)
 
+-- some lock byte of n from the first on is not 0
+unfoldable pub anyLocked : List ℕ → ℕ → ℕ → Bool
+anyLocked locks first zero = false
+anyLocked locks first (suc n) = anyLocked locks first n || isLocked locks (first + n)
+
 -- 20: "block; Option puts its lock byte first"; 23: "n+1 blocks, each as 20"; the last of them is to be inside, else "block outside 10"
 unfoldable pub reads : Card → Bool → ℕ → ℕ → Deed
 reads c option first n = cond (ltb (first + n) (c .blocks)) (deed c Leave (Blocks first (n + 1) option)) (fault c 0x10)
 
--- 21: "write; locked is 12". place is where the data begin in the frame
-unfoldable pub writes : Card → List ℕ → Bool → ℕ → ℕ → Deed
-writes c locks option block place =
-    cond (ltb block (c .blocks)) (cond (isLocked locks block) (failed option c 0x12) (done option c (Write block place))) (failed option c 0x10)
+-- 21: "write; locked is 12": n + 1 blocks, as they are read. place is where their data begin in the frame
+unfoldable pub writes : Card → List ℕ → Bool → ℕ → ℕ → ℕ → Deed
+writes c locks option first n place =
+    cond (ltb (first + n) (c .blocks))
+    (cond (anyLocked locks first (n + 1)) (failed option c 0x12) (done option c (Write first (n + 1) place)))
+    (failed option c 0x10)
 
 -- 22: "lock; already locked is 11"
 unfoldable pub locks-block : Card → List ℕ → Bool → ℕ → Deed
@@ -74,20 +81,26 @@ locks-dsfid c option = cond (c .«dsfid_locked») (failed option c 0x11) (done o
 unfoldable pub tells-locks : Card → ℕ → ℕ → Deed
 tells-locks c first n = cond (ltb (first + n) (c .blocks)) (deed c Leave (Status first (n + 1))) (fault c 0x10)
 
+-- "block", "first, n": how many bytes each of these numbers has, in the frames of a command
+unfoldable pub width : ℕ → ℕ
+width command = 1
+
 -- each command; 25 / 26: "mode Selected / Ready"; 2B: the answer is in crates/play. at is the place of the body in the frame
 unfoldable pub commanded : Card → List ℕ → Bool → List ℕ → ℕ → ℕ → Deed
 commanded c locks option frame at command =
-    let first : ℕ = getD frame at 0 in
-    let second : ℕ = getD frame (at + 1) 0 in
+    let w : ℕ = width command in
+    let first : ℕ = fieldAt frame at w in
+    let second : ℕ = fieldAt frame (at + w) w in
+    let value : ℕ = getD frame at 0 in
     cond (eqb command 0x20) (reads c option first 0)
-    (cond (eqb command 0x21) (writes c locks option first (at + 1))
+    (cond (eqb command 0x21) (writes c locks option first 0 (at + w))
     (cond (eqb command 0x22) (locks-block c locks option first)
     (cond (eqb command 0x23) (reads c option first second)
     (cond (eqb command 0x25) (deed (inMode Selected c) Leave Done)
     (cond (eqb command 0x26) (deed (inMode Ready c) Leave Done)
-    (cond (eqb command 0x27) (writes-afi c option first)
+    (cond (eqb command 0x27) (writes-afi c option value)
     (cond (eqb command 0x28) (locks-afi c option)
-    (cond (eqb command 0x29) (writes-dsfid c option first)
+    (cond (eqb command 0x29) (writes-dsfid c option value)
     (cond (eqb command 0x2a) (locks-dsfid c option)
     (cond (eqb command 0x2b) (deed c Leave Information)
     (tells-locks c first second)))))))))))
@@ -98,13 +111,16 @@ commanded c locks option frame at command =
 unfoldable pub isListed : ℕ → Bool
 isListed command = leb 0x20 command && (leb command 0x2c && not (eqb command 0x24))
 
--- "wrong body length 02": the table's column of bodies: "block", "block, data", "first, n", "none" and "byte"; data has the size of a block
-unfoldable pub bodyAsked : ℕ → ℕ → ℕ
-bodyAsked command size =
-    cond (eqb command 0x20 || (eqb command 0x22 || (eqb command 0x27 || eqb command 0x29))) 1
-    (cond (eqb command 0x21) (1 + size)
-    (cond (eqb command 0x23 || eqb command 0x2c) 2
-    0))
+-- "wrong body length 02": the table's column of bodies: "block", "block, data", "first, n", "byte" and "none"; data has the size of a block.
+-- A body may tell its own length, so the frame and the body's place are there to be looked at
+unfoldable pub bodyAsked : List ℕ → ℕ → ℕ → ℕ → ℕ
+bodyAsked frame at command size =
+    let w : ℕ = width command in
+    cond (eqb command 0x20 || eqb command 0x22) w
+    (cond (eqb command 0x21) (w + size)
+    (cond (eqb command 0x23 || eqb command 0x2c) (w + w)
+    (cond (eqb command 0x27 || eqb command 0x29) 1
+    0)))
 
 -- "Option set on 25, 26, 2B, 2C 03"
 unfoldable pub refusesOption : ℕ → Bool
@@ -122,7 +138,7 @@ bodyLength frame at = length frame - (at + 2)
 unfoldable pub judged : Card → List ℕ → Flags → List ℕ → ℕ → ℕ → Deed
 judged c locks f frame at command =
     cond (isListed command)
-    (cond (eqb (bodyLength frame at) (bodyAsked command (c .size)))
+    (cond (eqb (bodyLength frame at) (bodyAsked frame at command (c .size)))
     (cond (hasOption f && refusesOption command) (fault c 0x03) (commanded c locks (hasOption f) frame at command))
     (failed (hasOption f && holdsAnswer command) c 0x02))
     (fault c 0x01)

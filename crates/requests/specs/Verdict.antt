@@ -24,7 +24,7 @@ use Rattle.requests.specs.declared.verdict.Verdict.{Verdict}
 use Rattle.requests.specs.declared.request.Address.{Address}
 use Rattle.requests.specs.declared.request.Address.the-variants.{Nobody, Another, Own}
 use Rattle.card.specs.Record.{isQuiet, isSelected, inMode, holding, withAfi, withDsfid}
-use Rattle.requests.specs.Request.{deed, silent, reads, writes, locks-block, tells-locks, isListed, bodyAsked, refusesOption, requested}
+use Rattle.requests.specs.Request.{deed, silent, reads, writes, locks-block, tells-locks, width, isListed, bodyAsked, refusesOption, requested}
 
 abbrev pub verdict : Change → Effect → Reply → Bool → Verdict
 verdict change effect reply hold = record { change = change; effect = effect; reply = reply; hold = hold }
@@ -58,18 +58,19 @@ turned test mode = verdict (cond test (InMode mode) Nothing) Leave Silence false
 -- the part of the table with commands on blocks
 unfoldable pub onBlocks : Card → List ℕ → Bool → List ℕ → ℕ → ℕ → Deed
 onBlocks c locks option frame at command =
-    let first : ℕ = getD frame at 0 in
-    let second : ℕ = getD frame (at + 1) 0 in
+    let w : ℕ = width command in
+    let first : ℕ = fieldAt frame at w in
+    let second : ℕ = fieldAt frame (at + w) w in
     cond (eqb command 0x20) (reads c option first 0)
-    (cond (eqb command 0x21) (writes c locks option first (at + 1))
+    (cond (eqb command 0x21) (writes c locks option first 0 (at + w))
     (cond (eqb command 0x22) (locks-block c locks option first)
     (cond (eqb command 0x23) (reads c option first second)
     (tells-locks c first second))))
 
 -- step 6: the code of the first of the errors 01, 02 and 03, or 00
-unfoldable pub faultOf : Bool → ℕ → ℕ → ℕ → ℕ
-faultOf option command body size =
-    cond (isListed command) (cond (eqb body (bodyAsked command size)) (cond (option && refusesOption command) 0x03 0x00) 0x02) 0x01
+unfoldable pub faultOf : Bool → List ℕ → ℕ → ℕ → ℕ → ℕ → ℕ
+faultOf option frame at command body size =
+    cond (isListed command) (cond (eqb body (bodyAsked frame at command size)) (cond (option && refusesOption command) 0x03 0x00) 0x02) 0x01
 
 -- steps 1, 2 and 4: for whom a frame is that is no inventory request
 unfoldable pub toWhom : Card → Flags → List ℕ → Address

@@ -12,10 +12,10 @@ use card::Reply;
 use frames::Flags;
 use frames::byte_at;
 
-// What a frame does to memory and locks: nothing, into a block the data at a place of the frame, or a block locked.
+// What a frame does to memory and locks: nothing; into so many blocks from the first on the data at a place of the frame; a block locked.
 pub enum Effect {
     Leave,
-    Write(u32, u32),
+    Write(u32, u32, u32),
     Lock(u32),
 }
 

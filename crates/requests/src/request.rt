@@ -4,7 +4,8 @@ ghost use mathlib.Core.Bool.{cond, not, _&&_, _||_};
 ghost use lib.Dec.{ltb, eqb};
 ghost use Rattle.card.specs.Record.{isQuiet, isSelected};
 ghost use Prim.Native.Nat.{_+_, _≤_};
-ghost use Rattle.requests.specs.Request.{deed, fault, done, failed, isLocked, commanded, isListed, bodyAsked, holdsAnswer, bodyLength, sorted};
+ghost use Rattle.frames.specs.Field.{fieldAt};
+ghost use Rattle.requests.specs.Request.{deed, fault, done, failed, anyLocked, width, commanded, isListed, bodyAsked, holdsAnswer, bodyLength, sorted};
 ghost use Rattle.requests.specs.Verdict.{changed, made, turned, faultOf, toWhom, bodyPlace, heeded, onBlocks};
 use crate::Effect;
 use crate::verdict::Change;
@@ -18,23 +19,73 @@ use card::Reply;
 use frames::Flags;
 use frames::byte_at;
 
+// How many bytes a block number has in the frames of a command, and n likewise.
+fn width(command: u8) -> usize
+    ensures { λ r. ⌜ r ≡ width command ⌝ }
+{
+    1
+}
+
+// The block number, or n, at a place of the frame of a command.
+fn number_at(frame: &[u8], at: usize, command: u8) -> u16
+    ensures { λ r. ⌜ r ≡ fieldAt (now (frame .entry)) at (width command) ⌝ }
+{
+    byte_at(frame, at) as u16
+}
+
+// Whether n + 1 blocks from the first on are the card's.
+fn has_blocks(card: Card, first: u32, n: u32) -> bool
+    ensures { λ r. ⌜ r ≡ ltb (first + n) (card .blocks) ⌝ }
+{
+    (first as u64) + (n as u64) < (card.blocks as u64)
+}
+
 // A reply on n + 1 blocks, if they are the card's.
-fn tell(card: Card, first: u8, n: u8, reply: Reply) -> Verdict
+fn tell(card: Card, first: u32, n: u32, reply: Reply) -> Verdict
     ensures { λ r. ⌜ made card r ≡ cond (ltb (first + n) (card .blocks)) (deed card Effect.Leave reply) (fault card 0x10) ⌝ }
 {
-    if (first as u32) + (n as u32) < card.blocks {
+    if has_blocks(card, first, n) {
         answer(reply)
     } else {
         fail(false, 0x10)
     }
 }
 
-// An effect on a block, if it is the card's and open; the code is for a locked one.
-fn store(card: Card, locks: &[u8], option: bool, block: u8, code: u8, effect: Effect) -> Verdict
-    ensures { λ r. ⌜ made card r ≡ cond (ltb block (card .blocks)) (cond (isLocked (now (locks .entry)) block) (failed option card code) (done option card effect)) (failed option card 0x10) ⌝ }
+fn either(a: bool, b: bool) -> bool
+    ensures { λ r. ⌜ r ≡ (a || b) ⌝ }
 {
-    if (block as u32) < card.blocks {
-        if byte_at(locks, block as usize) != 0 {
+    if a { true } else { b }
+}
+
+// Whether a lock byte of n + 1 from the first on is not 0.
+fn any_locked(locks: &[u8], first: u32, n: u32) -> bool
+    ensures { λ r. ⌜ r ≡ anyLocked (now (locks .entry)) first (n + 1) ⌝ }
+{
+    let start = first as usize;
+    let count = (n as usize) + 1;
+    let mut found = false;
+    let mut i = 0;
+    while i < count {
+        found = either(found, byte_at(locks, start + i) != 0);
+        i += 1;
+    }
+    found
+}
+
+// An effect on n + 1 blocks, if they are the card's and all are open; the code is for a locked one.
+fn store(
+    card: Card,
+    locks: &[u8],
+    option: bool,
+    first: u32,
+    n: u32,
+    code: u8,
+    effect: Effect,
+) -> Verdict
+    ensures { λ r. ⌜ made card r ≡ cond (ltb (first + n) (card .blocks)) (cond (anyLocked (now (locks .entry)) first (n + 1)) (failed option card code) (done option card effect)) (failed option card 0x10) ⌝ }
+{
+    if has_blocks(card, first, n) {
+        if any_locked(locks, first, n) {
             fail(option, code)
         } else {
             succeed(option, Change::Nothing, effect)
@@ -82,19 +133,21 @@ fn is_one_of(x: u8, a: u8, b: u8, c: u8, d: u8) -> bool
     x == d
 }
 
-fn body_asked(command: u8, size: u32) -> usize
-    ensures { λ r. ⌜ r ≡ bodyAsked command size ⌝ }
+// How many bytes the body at a place of the frame has to have.
+fn body_asked(frame: &[u8], at: usize, command: u8, size: u32) -> usize
+    ensures { λ r. ⌜ r ≡ bodyAsked (now (frame .entry)) at command size ⌝ }
 {
-    if is_one_of(command, 0x20, 0x22, 0x27, 0x29) {
-        return 1;
+    let w = width(command);
+    match command {
+        0x20 => w,
+        0x21 => w + (size as usize),
+        0x22 => w,
+        0x23 => w + w,
+        0x27 => 1,
+        0x29 => 1,
+        0x2c => w + w,
+        _ => 0,
     }
-    if command == 0x21 {
-        return 1 + (size as usize);
-    }
-    if command == 0x23 {
-        return 2;
-    }
-    if command == 0x2c { 2 } else { 0 }
 }
 
 // Whether a fault is held: a wrong body length alone, with Option, where the command holds its answer.
@@ -145,24 +198,25 @@ fn serve_blocks(
     requires { ⌜ at ≤ 10 ⌝ }
     ensures { λ r. ⌜ made card r ≡ onBlocks card (now (locks .entry)) option (now (frame .entry)) at command ⌝ }
 {
-    let first = byte_at(frame, at);
-    let second = byte_at(frame, at + 1);
-    let block = first as u32;
-    let count = (second as u32) + 1;
-    let place = (at + 1) as u32;
+    let w = width(command);
+    let first = number_at(frame, at, command) as u32;
+    let second = number_at(frame, at + w, command) as u32;
+    let count = second + 1;
+    let place = (at + w) as u32;
     match command {
-        0x20 => tell(card, first, 0, Reply::Blocks(block, 1, option)),
+        0x20 => tell(card, first, 0, Reply::Blocks(first, 1, option)),
         0x21 => store(
             card,
             locks,
             option,
             first,
+            0,
             0x12,
-            Effect::Write(block, place),
+            Effect::Write(first, 1, place),
         ),
-        0x22 => store(card, locks, option, first, 0x11, Effect::Lock(block)),
-        0x23 => tell(card, first, second, Reply::Blocks(block, count, option)),
-        _ => tell(card, first, second, Reply::Status(block, count)),
+        0x22 => store(card, locks, option, first, 0, 0x11, Effect::Lock(first)),
+        0x23 => tell(card, first, second, Reply::Blocks(first, count, option)),
+        _ => tell(card, first, second, Reply::Status(first, count)),
     }
 }
 
@@ -209,13 +263,13 @@ fn perform(card: Card, locks: &[u8], option: bool, frame: &[u8], at: usize, comm
 }
 
 // The code of the first fault that comes before the table, or 00 for none.
-fn first_fault(option: bool, command: u8, body: usize, size: u32) -> u8
-    ensures { λ r. ⌜ r ≡ faultOf option command body size ⌝ }
+fn first_fault(option: bool, frame: &[u8], at: usize, command: u8, body: usize, size: u32) -> u8
+    ensures { λ r. ⌜ r ≡ faultOf option (now (frame .entry)) at command body size ⌝ }
 {
     if !is_listed(command) {
         return 0x01;
     }
-    let wrong = body != body_asked(command, size);
+    let wrong = body != body_asked(frame, at, command, size);
     let refused = both(option, is_one_of(command, 0x25, 0x26, 0x2b, 0x2c));
     if wrong {
         return 0x02;
@@ -255,7 +309,7 @@ fn sort(card: Card, locks: &[u8], f: Flags, frame: &[u8], at: usize) -> Verdict
     if both(command == 0x25, !f.b6) {
         return answer(Reply::Silence);
     }
-    let code = first_fault(f.b7, command, body, card.size);
+    let code = first_fault(f.b7, frame, at, command, body, card.size);
     if code == 0x00 {
         return perform(card, locks, f.b7, frame, at, command);
     }

@@ -1,4 +1,4 @@
--- `play::effects::take_effect` meets its contract, by the effect: a write that fits has its block in memory and its data in the frame, a
+-- `play::effects::take_effect` meets its contract, by the effect: a write that fits has its blocks in memory and its data in the frame, a
 -- lock its block among the lock bytes. Assumes nothing.
 use borrow.Author.Needs.{needs}
 use native.Mathlib.Omega.{arith}
@@ -17,19 +17,11 @@ enum-told c = search needs
 enum-known-effect : tie.Need-enum-known-effect
 enum-known-effect c = search needs
 
-cast-copy : tie.Need-cast-copy
-cast-copy c = search needs
+cast-store-blocks : tie.Need-cast-store-blocks
+cast-store-blocks c = search needs
 
-cast-copy-2 : tie.Need-cast-copy-2
-cast-copy-2 c = search needs
-
-mul-copy : tie.Need-mul-copy
-mul-copy c =
-    let asked = c .before .before .before .before .before .before .before .before .pre in
-    omega (arith, write-within (c .before .before .effect .given .1) (asked .0), asked .1 .0)
-
-copy-requires : tie.Need-copy-requires
-copy-requires c κs =
+store-blocks-requires : tie.Need-store-blocks-requires
+store-blocks-requires c κs =
     let asked = c .before .before .before .before .before .before .before .before .pre in
     let w = write-within (c .before .before .effect .given .1) (asked .0) in
     (w .source, omega (arith, w .inside, asked .1 .0))
@@ -54,7 +46,7 @@ same-length c = search needs
 
 returns-2 : tie.Need-returns-2
 unfolding memoryAfter locksAfter
-returns-2 c = rw (c .before .before .before .before .before .effect .given .1) (c .before .before .copy .ensures, refl)
+returns-2 c = rw (c .before .before .before .before .before .effect .given .1) (c .before .before .store-blocks .ensures, refl)
 
 same-length-2 : tie.Need-same-length-2
 same-length-2 c = search needs
@@ -70,10 +62,8 @@ take-effect-spec =
     cast-size
     enum-told
     enum-known-effect
-    cast-copy
-    cast-copy-2
-    mul-copy
-    copy-requires
+    cast-store-blocks
+    store-blocks-requires
     enum-known-effect-2
     cast-locks
     slice-write-locks

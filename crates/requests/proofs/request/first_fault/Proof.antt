@@ -26,7 +26,7 @@ both-requires c κs = search needs
 returns-2 : tie.Need-returns-2
 unfolding faultOf
 returns-2 c =
-    let fits = eqb (c .before .before .before .before .before .before .args .body) (c .before .before .before .body-asked .result) in
+    let fits = eqb (c .before .before .before .before .before .before .before .args .body) (c .before .before .before .body-asked .result) in
     rw (
       ← (c .before .before .before .before .before .is-listed .ensures),
       not-false (c .before .before .before .before .before .is-listed .result) (c .before .before .before .before .if1 .left),
@@ -37,7 +37,7 @@ returns-2 c =
 returns-3 : tie.Need-returns-3
 unfolding faultOf refusesOption
 returns-3 c =
-    let fits = eqb (c .before .before .before .before .before .before .before .args .body) (c .before .before .before .before .body-asked .result) in
+    let fits = eqb (c .before .before .before .before .before .before .before .before .args .body) (c .before .before .before .before .body-asked .result) in
     rw (
       ← (c .before .before .before .before .before .before .is-listed .ensures),
       not-false (c .before .before .before .before .before .before .is-listed .result) (c .before .before .before .before .before .if1 .left),
@@ -51,7 +51,7 @@ returns-3 c =
 returns-4 : tie.Need-returns-4
 unfolding faultOf refusesOption
 returns-4 c =
-    let fits = eqb (c .before .before .before .before .before .before .before .args .body) (c .before .before .before .before .body-asked .result) in
+    let fits = eqb (c .before .before .before .before .before .before .before .before .args .body) (c .before .before .before .before .body-asked .result) in
     rw (
       ← (c .before .before .before .before .before .before .is-listed .ensures),
       not-false (c .before .before .before .before .before .before .is-listed .result) (c .before .before .before .before .before .if1 .left),

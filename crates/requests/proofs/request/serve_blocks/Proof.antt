@@ -1,34 +1,40 @@
 -- `requests::request::serve_blocks` meets its contract: the definition goes by the same commands, one after the other. Assumes nothing.
 use borrow.Author.Needs.{needs}
 use borrow.Author.Tests.{ne-eqb}
-use Rattle.requests.specs.Verdict.{onBlocks}
+use native.Mathlib.Nat.{add-zero}
+use native.Mathlib.Omega.{arith}
 use Rattle.requests.specs.Request.{reads, writes, locks-block, tells-locks}
+use Rattle.requests.specs.Verdict.{onBlocks}
+use Rattle.requests.proofs.Blocks.{width-most, any-locked-one}
 use Rattle.requests.proofs.request.serve_blocks.Statement.{statement}
 use Rattle.requests.proofs.request.serve_blocks.Tie as tie
 
-byte-at-requires : tie.Need-byte-at-requires
-byte-at-requires c κs = search needs
+width-requires : tie.Need-width-requires
+width-requires c κs = search needs
 
-add-byte-at : tie.Need-add-byte-at
-add-byte-at c = search needs
+number-at-requires : tie.Need-number-at-requires
+number-at-requires c κs = search needs
 
-byte-at-requires-2 : tie.Need-byte-at-requires-2
-byte-at-requires-2 c κs = search needs
+cast-first : tie.Need-cast-first
+cast-first c = search needs
 
-cast-block : tie.Need-cast-block
-cast-block c = search needs
+add-number-at : tie.Need-add-number-at
+add-number-at c = omega (arith, c .before .width .ensures, width-most (c .before .before .before .before .args .command))
 
-cast-count : tie.Need-cast-count
-cast-count c = search needs
+number-at-requires-2 : tie.Need-number-at-requires-2
+number-at-requires-2 c κs = search needs
+
+cast-second : tie.Need-cast-second
+cast-second c = search needs
 
 add-count : tie.Need-add-count
 add-count c = search needs
 
 add-place : tie.Need-add-place
-add-place c = search needs
+add-place c = omega (arith, c .before .before .width .ensures, width-most (c .before .before .before .before .before .args .command))
 
 cast-place : tie.Need-cast-place
-cast-place c = search needs
+cast-place c = omega (arith, c .before .before .width .ensures, width-most (c .before .before .before .before .before .args .command))
 
 tell-requires : tie.Need-tell-requires
 tell-requires c κs = search needs
@@ -47,48 +53,60 @@ tell-requires-3 c κs = search needs
 
 returns : tie.Need-returns
 unfolding onBlocks reads
-returns c = rw (c .before .match .keys1, ← (c .before .before .before .byte-at .ensures)) (c .tell .ensures)
+returns c = rw (← (c .before .before .before .number-at .ensures), c .before .match .keys1) (c .tell .ensures)
 
 returns-2 : tie.Need-returns-2
 unfolding onBlocks writes
-returns-2 c = rw (c .before .match .keys2, ← (c .before .before .before .byte-at .ensures)) (c .store .ensures)
+returns-2 c =
+    rw (
+      ← (c .before .before .before .number-at .ensures),
+      ← (c .before .before .before .before .width .ensures),
+      c .before .match .keys2,
+    ) (c .store .ensures)
 
 returns-3 : tie.Need-returns-3
 unfolding onBlocks locks-block
-returns-3 c = rw (c .before .match .keys3, ← (c .before .before .before .byte-at .ensures)) (c .store2 .ensures)
+returns-3 c =
+    rw (
+      ← (c .before .before .before .number-at .ensures),
+      c .before .match .keys3,
+    ) (rw (add-zero, any-locked-one) at (c .store2 .ensures))
 
 returns-4 : tie.Need-returns-4
 unfolding onBlocks reads
 returns-4 c =
+    let second = rw (c .before .before .before .before .width .ensures) at (c .before .before .number-at2 .ensures) in
     rw (
+      ← (c .before .before .before .number-at .ensures),
+      ← second,
       c .before .match .keys4,
-      ← (c .before .before .before .byte-at .ensures),
-      ← (c .before .before .byte-at2 .ensures),
     ) (c .tell2 .ensures)
 
 returns-5 : tie.Need-returns-5
 unfolding onBlocks tells-locks
 returns-5 c =
-    let command = c .before .before .before .before .before .before .args .command in
+    let command = c .before .before .before .before .before .before .before .args .command in
     let rest = c .before .match .rest in
+    let second = rw (c .before .before .before .before .width .ensures) at (c .before .before .number-at2 .ensures) in
     rw (
       ne-eqb command 0x20 (rest .0 .0 .0 .1),
       ne-eqb command 0x21 (rest .0 .0 .1),
       ne-eqb command 0x22 (rest .0 .1),
       ne-eqb command 0x23 (rest .1),
-      ← (c .before .before .before .byte-at .ensures),
-      ← (c .before .before .byte-at2 .ensures),
+      ← (c .before .before .before .number-at .ensures),
+      ← second,
     ) (c .tell3 .ensures)
 
 pub serve-blocks-spec : {M : Type 1} → statement M
 serve-blocks-spec =
     tie.close
     (tie.spec
-    byte-at-requires
-    add-byte-at
-    byte-at-requires-2
-    cast-block
-    cast-count
+    width-requires
+    number-at-requires
+    cast-first
+    add-number-at
+    number-at-requires-2
+    cast-second
     add-count
     add-place
     cast-place

@@ -1,14 +1,15 @@
 -- `requests::request::store` meets its contract: the definition goes by the same two tests. Assumes nothing.
 use borrow.Author.Needs.{needs}
-use borrow.Author.Tests.{eq-eqb, ne-eqb, lt-ltb, le-ltb}
-use Rattle.requests.specs.Request.{isLocked}
 use Rattle.requests.specs.Verdict.{changed}
 use Rattle.requests.proofs.Verdicts.{made-done, made-failed}
 use Rattle.requests.proofs.request.store.Statement.{statement}
 use Rattle.requests.proofs.request.store.Tie as tie
 
-byte-at-requires : tie.Need-byte-at-requires
-byte-at-requires c κs = search needs
+has-blocks-requires : tie.Need-has-blocks-requires
+has-blocks-requires c κs = search needs
+
+any-locked-requires : tie.Need-any-locked-requires
+any-locked-requires c κs = search needs
 
 fail-requires : tie.Need-fail-requires
 fail-requires c κs = search needs
@@ -20,33 +21,34 @@ fail-requires-2 : tie.Need-fail-requires-2
 fail-requires-2 c κs = search needs
 
 returns : tie.Need-returns
-unfolding isLocked
 returns c =
     let args = c .before .before .before .before .before .before .args in
     rw (
-      lt-ltb _ _ (c .before .before .before .if1 .taken),
-      ← (c .before .before .byte-at .ensures),
-      ne-eqb _ _ (c .before .if2 .taken),
+      ← (c .before .before .before .before .has-blocks .ensures),
+      c .before .before .before .if1 .taken,
+      ← (c .before .before .any-locked .ensures),
+      c .before .if2 .taken,
       c .fail .ensures,
     ) (made-failed (args .card) (args .option) (args .code))
 
 returns-2 : tie.Need-returns-2
-unfolding isLocked changed
+unfolding changed
 returns-2 c =
     let args = c .before .before .before .before .before .before .args in
     rw (
-      lt-ltb _ _ (c .before .before .before .if1 .taken),
-      ← (c .before .before .byte-at .ensures),
-      eq-eqb _ _ (c .before .if2 .left),
+      ← (c .before .before .before .before .has-blocks .ensures),
+      c .before .before .before .if1 .taken,
+      ← (c .before .before .any-locked .ensures),
+      c .before .if2 .left,
       c .succeed .ensures,
     ) (made-done (args .card) (args .option) _ (args .effect))
 
 returns-3 : tie.Need-returns-3
-unfolding isLocked
 returns-3 c =
     let args = c .before .before .before .before .args in
     rw (
-      le-ltb _ _ (c .before .if1 .left),
+      ← (c .before .before .has-blocks .ensures),
+      c .before .if1 .left,
       c .fail2 .ensures,
     ) (made-failed (args .card) (args .option) 0x10)
 
@@ -54,7 +56,8 @@ pub store-spec : {M : Type 1} → statement M
 store-spec =
     tie.close
     (tie.spec
-    byte-at-requires
+    has-blocks-requires
+    any-locked-requires
     fail-requires
     succeed-requires
     fail-requires-2
