@@ -15,6 +15,7 @@ pub mod EventWays
 pub mod Outcomes
 pub mod EventKeeps
 pub mod Stays
+pub mod Lengths
 pub mod Life
 pub mod Unique
 pub mod ExampleReads
