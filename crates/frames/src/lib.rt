@@ -14,6 +14,9 @@ pub const SHORTEST: usize = 4;
 
 pub const LONGEST: usize = 64;
 
+// The longest answer, in bytes.
+pub const LONGEST_ANSWER: usize = 8451;
+
 // Number 8, room short.
 const ROOM_SHORT: i64 = -8;
 

@@ -1,29 +1,35 @@
--- The length that is told of a reply is the length of its answer, and so it is after an effect on memory or lock bytes.
--- By what is put, and by what a deed leaves of their lengths. Assumes nothing.
+-- How long an answer is: none, or within the limits of answers; the length that is told, also where memory or lock bytes were changed.
+-- By the reply, by what is put, and by what a deed leaves of their lengths. Assumes nothing.
 use mathlib.Core.Path.{_≡_, refl, sym, _∙_}
 use mathlib.Core.Bool.{true}
 use mathlib.Core.List.{List, []}
-use Prim.Native.Nat.{ℕ, _-_, _*_, _≤_}
+use Prim.Native.Nat.{ℕ, _+_, _-_, _*_, _≤_}
+use native.Mathlib.Nat.{mul-le-mul}
 use native.Mathlib.Decide.{ℕ-discrete}
 use native.Mathlib.Omega.{arith}
 use lib.ListN.{length}
+use Rattle.frames.specs.Frame.{shortestAnswer, longestAnswer}
 use Rattle.card.specs.declared.Card.{Card}
 use Rattle.card.specs.declared.Reply.{Reply}
 use Rattle.card.specs.declared.Reply.the-variants.{Silence, Error, Done, Present, Blocks, Status, Information}
+use Rattle.card.specs.Record.{shapeFits}
 use Rattle.card.specs.Reply.{replyLength}
+use Rattle.card.proofs.Accepted.{Shape, shape-of}
 use Rattle.requests.specs.declared.Deed.{Deed}
+use Rattle.play.specs.Refusal.{roomAsked}
 use Rattle.play.specs.Answer.{replyBytes}
 use Rattle.play.specs.Effects.{memoryAfter, locksAfter}
 use Rattle.play.specs.Fits.{replyFits}
 use Rattle.play.specs.Steps.{DeedReady}
 use Rattle.play.specs.Events.{lengthTold, carriedOut, replied}
-use Rattle.play.proofs.Room.{length-reply}
+use Rattle.play.proofs.Room.{reply-most, length-reply}
 use Rattle.play.proofs.EventWays.{told-silence, told-length}
 use Rattle.play.proofs.Stays.{length-memory, length-locks}
 
--- an answer has flags and check at least
-pub reply-least : (c : Card) (reply : Reply) → (replyLength c reply ≡ 0 → ⊥) → 3 ≤ replyLength c reply
-unfolding replyLength
+-- ---- an answer is none, or has 3 to 8451 bytes
+
+pub reply-least : (c : Card) (reply : Reply) → (replyLength c reply ≡ 0 → ⊥) → shortestAnswer ≤ replyLength c reply
+unfolding replyLength shortestAnswer
 reply-least c Silence some = absurd (some refl)
 reply-least c (Error code) some = omega arith
 reply-least c Done some = omega arith
@@ -32,8 +38,23 @@ reply-least c (Blocks first n option) some = omega arith
 reply-least c (Status first n) some = omega arith
 reply-least c Information some = omega arith
 
+-- the shape limits the room that number 4 asks for
+pub asked-longest : (c : Card) → shapeFits (c .blocks) (c .size) ≡ true → roomAsked c ≤ longestAnswer
+unfolding roomAsked longestAnswer
+asked-longest c e =
+    let shape : Shape (c .blocks) (c .size) = shape-of (c .blocks) (c .size) e in
+    let more : c .size + 1 ≤ 33 = omega (arith, shape .size-most) in
+    let all : c .blocks * (c .size + 1) ≤ 256 * 33 = mul-le-mul (shape .blocks-most) more in
+    omega arith
+
+pub reply-longest : (c : Card) (reply : Reply) → shapeFits (c .blocks) (c .size) ≡ true → replyFits c reply ≡ true → replyLength c reply ≤ longestAnswer
+reply-longest c reply e fits = omega (arith, asked-longest c e, reply-most c reply fits)
+
+-- ---- and it is the length that is told
+
 pub reply-told : (c : Card) (memory locks : List ℕ) (reply : Reply) → length memory ≡ c .blocks * c .size → length locks ≡ c .blocks
     → replyFits c reply ≡ true → lengthTold (replyBytes c memory locks reply) ≡ replyLength c reply
+unfolding shortestAnswer
 reply-told c memory locks reply stored marks fits = go (ℕ-discrete (replyLength c reply) 0)
   where
     body : List ℕ
