@@ -3,7 +3,7 @@
 use mathlib.Core.Path.{_≡_, refl}
 use mathlib.Core.Bool.{Bool, true, false, cond}
 use mathlib.Core.List.{List}
-use Prim.Native.Nat.{ℕ, _+_, _≤_}
+use Prim.Native.Nat.{ℕ, _≤_}
 use native.Mathlib.Omega.{arith}
 use borrow.Author.Tests.{eqb-true}
 use lib.Dec.{eqb}
@@ -13,14 +13,16 @@ use Rattle.card.specs.declared.Reply.{Reply}
 use Rattle.requests.specs.Frame.{decided}
 use Rattle.card.specs.Mark.{marked}
 use Rattle.card.specs.Record.{poweredOff}
+use Rattle.card.specs.Reply.{replyLength}
 use Rattle.card.specs.declared.Reply.the-variants.{Silence}
 use Rattle.play.specs.Refusal.{refusal, roomFits}
 use Rattle.play.specs.Fits.{replyFits}
 use Rattle.play.specs.Answer.{replyBytes}
-use Rattle.play.specs.Events.{lengthTold, Outcome, replied, unserved, event, carriedOut, frameEvent, markEvent, offEvent}
-use Rattle.play.proofs.Room.{reply-room, silence-length}
+use Rattle.play.specs.Events.{Outcome, replied, unserved, event, carriedOut, frameEvent, markEvent, offEvent}
+use Rattle.play.proofs.Room.{room-of, reply-most, silence-length}
 use Rattle.play.proofs.ReadyFor.{deed-ready, mark-ready}
 use Rattle.play.proofs.EventWays.{told-silence}
+use Rattle.play.proofs.Lengths.{reply-told, deed-told}
 
 -- an event, where what is served fits
 event-told : (c : Card) (memory locks found : List ℕ) (o : Outcome)
@@ -35,33 +37,25 @@ event-told c memory locks found o h = go (eqb n 0) (λ e. h (eqb-true n 0 e))
     go true k = k refl
     go false k = omega arith
 
-told-most : (body : List ℕ) (room : ℕ) → length body + 2 ≤ room → lengthTold body ≤ room
-unfolding lengthTold
-told-most body room h = go (eqb (length body) 0)
-  where
-    go : (b : Bool) → cond b 0 (length body + 2) ≤ room
-    go true = omega arith
-    go false = h
-
-reply-told : (c : Card) (memory locks found : List ℕ) (reply : Reply) → replyFits c reply ≡ true → roomFits c (length found) ≡ true
-    → replied c memory locks reply found .told ≤ length found
-unfolding replied
-reply-told c memory locks found reply p q =
-    told-most (replyBytes c memory locks reply) (length found) (reply-room c memory locks reply (length found) p q)
+-- an answer is within the room that number 4 asks for
+reply-fits : (c : Card) (reply : Reply) (room n : ℕ) → replyFits c reply ≡ true → roomFits c room ≡ true → n ≡ replyLength c reply → n ≤ room
+reply-fits c reply room n p q e = omega (arith, reply-most c reply p, room-of c room q .asked)
 
 frame-fits : (c : Card) (frame memory locks found : List ℕ) → frameEvent c frame memory locks found .told ≤ length found
 unfolding frameEvent carriedOut
 frame-fits c frame memory locks found =
     event-told c memory locks found (carriedOut (decided c locks frame) frame memory locks found) (λ e.
     let ready = deed-ready c frame (length memory) locks (length found) (refusal c (length memory) locks (length found)) (decided c locks frame) refl e refl in
-    reply-told (decided c locks frame .card) _ _ found (decided c locks frame .reply) (ready .reply) (ready .ready .fits))
+    reply-fits (decided c locks frame .card) (decided c locks frame .reply) (length found) _ (ready .reply) (ready .ready .fits)
+    (deed-told (decided c locks frame) frame memory locks found ready))
 
 mark-fits : (c : Card) (memory locks found : List ℕ) → markEvent c memory locks found .told ≤ length found
-unfolding markEvent
+unfolding markEvent replied
 mark-fits c memory locks found =
     event-told c memory locks found (replied (marked c .card) memory locks (marked c .reply) found) (λ e.
     let ready = mark-ready c (length memory) locks (length found) (refusal c (length memory) locks (length found)) (marked c) refl e refl in
-    reply-told (marked c .card) memory locks found (marked c .reply) (ready .reply) (ready .ready .fits))
+    reply-fits (marked c .card) (marked c .reply) (length found) _ (ready .reply) (ready .ready .fits)
+    (reply-told (marked c .card) memory locks (marked c .reply) (ready .ready .stored) (ready .ready .marks) (ready .reply)))
 
 off-fits : (c : Card) (memory locks found : List ℕ) → offEvent c memory locks found .told ≤ length found
 unfolding offEvent replied

@@ -1,4 +1,5 @@
 pub mod Record
 pub mod Inventory
 pub mod Mark
+pub mod Reply
 pub mod Frame

@@ -11,7 +11,7 @@ use Rattle.card.specs.declared.Card.{Card}
 use Rattle.card.specs.declared.Sequence.the-variants.{Running}
 use Rattle.card.specs.Record.{sequenceFits, heldFits, isAccepted, remade, cleared, inSequence}
 use Rattle.card.proofs.Accepted.{tests-of}
-use Rattle.play.specs.Refusal.{lengthsFit, locksFit, roomFits, refusal}
+use Rattle.play.specs.Refusal.{lengthsFit, locksFit, roomAsked, roomFits, refusal}
 use Rattle.play.specs.Answer.{presence}
 use Rattle.play.proofs.Refusals.{Passes, passes-of, refusal-none}
 use Rattle.play.proofs.Room.{room-of}
@@ -33,7 +33,7 @@ served-room c memory locks room e = room-of c room (passes-of c memory locks roo
 -- an accepted card of the same shape is served too
 pub served-same : (c card : Card) (memory : ℕ) (locks : List ℕ) (room : ℕ) → card .blocks ≡ c .blocks → card .size ≡ c .size → isAccepted card ≡ true
     → refusal c memory locks room ≡ 0 → refusal card memory locks room ≡ 0
-unfolding lengthsFit roomFits
+unfolding lengthsFit roomFits roomAsked
 served-same c card memory locks room a b accepted e =
     let p : Passes c memory locks room = passes-of c memory locks room e in
     refusal-none card memory locks room
@@ -41,8 +41,8 @@ served-same c card memory locks room a b accepted e =
 
 -- a card of one byte, not locked, is served
 pub byte-served : (c : Card) (room : ℕ) → isAccepted c ≡ true → c .blocks ≡ 1 → c .size ≡ 1 → 32 ≤ room → refusal c 1 (0 ∷ []) room ≡ 0
-unfolding refusal lengthsFit locksFit roomFits
-byte-served c room accepted blocks size h = rw (accepted, blocks, size, le-leb 32 room h, le-leb 5 room (omega arith))
+unfolding refusal lengthsFit locksFit roomFits roomAsked
+byte-served c room accepted blocks size h = rw (accepted, blocks, size, le-leb 32 room h)
 
 -- ---- the card in step
 

@@ -13,7 +13,8 @@ use Rattle.card.specs.declared.Turn.{Turn}
 use Rattle.card.specs.Record.{cleared}
 use Rattle.card.specs.Inventory.{present}
 use Rattle.card.specs.Mark.{marked}
-use Rattle.requests.specs.Frame.{decided}
+use Rattle.card.proofs.Heard.{heard-cleared}
+use Rattle.requests.specs.Frame.{leaving}
 use Rattle.play.specs.Refusal.{refusal}
 use Rattle.play.specs.Effects.{memoryAfter, locksAfter}
 use Rattle.play.specs.Events.{Outcome, replied, carriedOut, frameEvent, markEvent}
@@ -25,7 +26,7 @@ use Rattle.walk.specs.Ask.{request}
 use Rattle.play.specs.Life.{Tag}
 use Rattle.field.specs.Field.{Obeys, reached}
 use Rattle.field.proofs.InTime.{inStep, calls, Follows, AtSlot}
-use Rattle.field.proofs.Requested.{request-decided}
+use Rattle.field.proofs.Requested.{request-heard, request-decided}
 use Rattle.field.proofs.MarkHeard.{mark-heard}
 use Rattle.field.proofs.InStep.{served-same, cleared-blocks, cleared-size, slot-follows}
 
@@ -36,10 +37,6 @@ stepped family w t found =
 
 -- ---- a request
 
-decided-cleared : (c card : Card) (locks frame : List ℕ) → cleared card ≡ cleared c → decided card locks frame ≡ decided c locks frame
-unfolding decided
-decided-cleared c card locks frame e = rw e
-
 frame-heard : (c card : Card) (w : Walk) (memory locks found : List ℕ) → refusal card (length memory) locks (length found) ≡ 0
     → cleared card ≡ cleared c → w .level < 16 → w .mask < 2 ^ maskLength (w .level) → w .slot ≡ 0
     → frameEvent card (request w) memory locks found
@@ -48,7 +45,7 @@ unfolding frameEvent carriedOut memoryAfter locksAfter
 frame-heard c card w memory locks found served same h g e =
     event-served card memory locks found _ 0 (sym served) refl
     ∙ ap (λ (d : Deed). carriedOut d (request w) memory locks found)
-    (decided-cleared c card locks (request w) same ∙ request-decided c locks w h g e)
+    (request-decided card locks w ∙ ap leaving (heard-cleared c card (request w) same ∙ request-heard c w h g e))
 
 follows-served : (t₀ t : Tag) → Obeys t₀ → Follows t₀ t → refusal (t .card) (length (t₀ .memory)) (t₀ .locks) (length (t .room)) ≡ 0
 follows-served t₀ t o f =

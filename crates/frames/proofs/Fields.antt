@@ -87,7 +87,7 @@ byte-of-field frame at count k h = go (decLt k count)
 
 -- a field is its two fours
 pub field-of-fours : (frame : List ℕ) (at count : ℕ) → fieldAt frame at count ≡ fourAt frame at count 0 + 4294967296 * fourAt frame at count 4
-unfolding fieldAt fourAt sum
+unfolding fieldAt fieldOf fourAt sum
 field-of-fours frame at count =
     let part : List ℕ = take (min 8 count) (drop at frame) in
     field-sum 8 part (rw length-take (omega arith))
@@ -120,7 +120,7 @@ field-byte-below frame at count i h = go (ltb i count)
     go false = omega arith
 
 pub field-below : (frame : List ℕ) (at count : ℕ) → Bytes frame → fieldAt frame at count < 256 ^ 8
-unfolding fourAt
+unfolding fieldOf fourAt
 field-below frame at count h =
     rw field-of-fours
     (omega (

@@ -3,6 +3,7 @@
 use mathlib.Core.Path.{_≡_}
 use mathlib.Core.Bool.{true, _&&_, and-eq-true-iff}
 use Prim.Native.Nat.{ℕ, _+_, _≤_}
+use native.Mathlib.Omega.{arith}
 use mathlib.Core.List.{List}
 use borrow.Author.Tests.{le-leb, leb-true}
 use lib.Dec.{leb}
@@ -15,6 +16,11 @@ pub sound-of-sealed : (m : List ℕ) → shortest ≤ length m + 2 → length m 
 unfolding isSound
 sound-of-sealed m a b =
     rw (length-sealed m, le-leb shortest (length m + 2) a, le-leb (length m + 2) longest b) (is-sealed-of-sealed m)
+
+-- so a short message with its check is sound, whatever the limits are beyond it
+pub sound-of-short : (m : List ℕ) → 2 ≤ length m → length m ≤ 62 → isSound (sealed m) ≡ true
+unfolding shortest longest
+sound-of-short m a b = sound-of-sealed m (omega arith) (omega arith)
 
 pub sealed-of-sound : (frame : List ℕ) → isSound frame ≡ true → Sound frame
 unfolding isSound

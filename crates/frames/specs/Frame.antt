@@ -17,6 +17,14 @@ shortest = 4
 unfoldable pub longest : ℕ
 longest = 64
 
+-- the shortest answer: "It covers all bytes from the flags on and stands last", so that it has flags and check at least
+unfoldable pub shortestAnswer : ℕ
+shortestAnswer = 3
+
+-- the longest answer: "3 + blocks × (size + 1)", of "1 to 256 blocks of 1 to 32 bytes"
+unfoldable pub longestAnswer : ℕ
+longestAnswer = 8451
+
 unfoldable pub isSound : List ℕ → Bool
 isSound frame = leb shortest (length frame) && (leb (length frame) longest && isSealed frame)
 

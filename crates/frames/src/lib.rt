@@ -1,10 +1,11 @@
 // What frames are made of: flags, fields of several bytes, and the check that seals them.
 ghost use mathlib.Core.Path.{_≡_};
 ghost use Rattle.frames.specs.Flags.{flagsOf};
-ghost use Prim.Native.Nat.{_+_, _*_, _<_, _≤_};
+ghost use mathlib.Core.List.{[], _∷_};
+ghost use Prim.Native.Nat.{_+_, _<_, _≤_};
 ghost use lib.ListN.{length, getD};
 ghost use Rattle.lent.specs.Lent.{placed};
-ghost use Rattle.frames.specs.Field.{fieldAt, fieldBytes, PutsField};
+ghost use Rattle.frames.specs.Field.{fieldOf, fieldAt, fieldBytes, PutsField};
 ghost use Rattle.frames.specs.Steps.{fieldByte, fourAt};
 ghost use Rattle.frames.specs.Frame.{Seals, isSound};
 
@@ -12,6 +13,9 @@ ghost use Rattle.frames.specs.Frame.{Seals, isSound};
 pub const SHORTEST: usize = 4;
 
 pub const LONGEST: usize = 64;
+
+// The longest answer, in bytes.
+pub const LONGEST_ANSWER: usize = 8451;
 
 // Number 8, room short.
 const ROOM_SHORT: i64 = -8;
@@ -69,9 +73,9 @@ fn field_byte(frame: &[u8], at: usize, count: usize, i: usize) -> u8
     frame[at + i]
 }
 
-// Four bytes joined, the lowest first.
-fn join(b0: u8, b1: u8, b2: u8, b3: u8) -> u32
-    ensures { λ r. ⌜ r ≡ b0 + 256 * b1 + 65536 * b2 + 16777216 * b3 ⌝ }
+// The number in four bytes, the lowest first.
+pub fn join(b0: u8, b1: u8, b2: u8, b3: u8) -> u32
+    ensures { λ r. ⌜ r ≡ fieldOf (b0 ∷ b1 ∷ b2 ∷ b3 ∷ []) ⌝ }
 {
     (b0 as u32) + 256 * (b1 as u32) + 65536 * (b2 as u32) + 16777216 * (b3 as u32)
 }

@@ -1,28 +1,23 @@
 -- What the walk sends reaches a card of the row: it is in step with the walk, and answers exactly if it is called.
 -- By what a request and a slot mark do to a card of a field. Assumes nothing.
-use mathlib.Core.Path.{_≡_, refl, sym, ap, _∙_}
-use mathlib.Core.Bool.{Bool, true, false}
+use mathlib.Core.Path.{_≡_, ap, _∙_}
+use mathlib.Core.Bool.{true}
 use Prim.Native.Nat.{ℕ, suc, _<_}
 use native.Mathlib.Omega.{arith}
-use mathlib.Core.List.{List, []}
-use lib.ListN.{getD}
 use Rattle.lent.proofs.Over.{take-over}
-use Rattle.crc.specs.Check.{sealed}
-use Rattle.frames.specs.Flags.{flagsOf}
 use Rattle.card.specs.declared.Card.{Card}
-use Rattle.requests.specs.declared.Deed.{Deed}
 use Rattle.card.specs.declared.Turn.{Turn}
 use Rattle.card.specs.Record.{cleared}
 use Rattle.card.specs.Inventory.{turn, present}
 use Rattle.card.specs.Mark.{marked}
 use Rattle.card.specs.Frame.{heardInventory}
-use Rattle.requests.proofs.Rules.{inventory-frame}
+use Rattle.card.proofs.Heard.{heard-cleared}
 use Rattle.walk.specs.declared.Walk.{Walk}
-use Rattle.walk.specs.Record.{hasFamily, isAccepted, isRunning}
-use Rattle.walk.specs.Ask.{Asking, requestHead, requestBody, request, sent, roomAfter}
+use Rattle.walk.specs.Record.{isAccepted, isRunning}
+use Rattle.walk.specs.Ask.{Asking, request, sent, roomAfter}
 use Rattle.walk.proofs.Limits.{Accepted, accepted-of-is-accepted}
 use Rattle.field.proofs.InTime.{inStep, calls}
-use Rattle.field.proofs.Requested.{request-decided}
+use Rattle.field.proofs.Requested.{request-heard}
 use Rattle.field.proofs.MarkHeard.{mark-heard}
 use Rattle.field.proofs.RowAsked.{walk-asked, sent-request, sent-mark}
 use Rattle.row.specs.Row.{noBytes, sentOf, heardBy, turnBy, turnOf}
@@ -33,24 +28,10 @@ stepped w c = turn (inStep (w .family) (w .level) (w .mask) (w .slot) c) (presen
 
 -- ---- a request
 
-request-flags : (w : Walk) → flagsOf (getD (request w) 0 0) .b3 ≡ true
-unfolding request requestBody requestHead sealed flagsOf
-request-flags w = go (hasFamily w) refl
-  where
-    go : (b : Bool) → hasFamily w ≡ b → flagsOf (getD (request w) 0 0) .b3 ≡ true
-    go true e = rw e
-    go false e = rw e
-
-heard-cleared : (c card : Card) (frame : List ℕ) → cleared card ≡ cleared c → heardInventory card frame ≡ heardInventory c frame
-unfolding heardInventory
-heard-cleared c card frame e = rw e
-
-request-heard : (c card : Card) (w : Walk) → Accepted w → w .level < 16 → w .slot ≡ 0 → cleared card ≡ cleared c → heardInventory card (request w) ≡ stepped w c
+request-stepped : (c card : Card) (w : Walk) → Accepted w → w .level < 16 → w .slot ≡ 0 → cleared card ≡ cleared c
+    → heardInventory card (request w) ≡ stepped w c
 unfolding stepped
-request-heard c card w facts level e same =
-    heard-cleared c card (request w) same
-    ∙ ap (λ (d : Deed). turn (d .card) (d .reply))
-    (sym (inventory-frame c [] (request w) (request-flags w)) ∙ request-decided c [] w level (facts .mask) e)
+request-stepped c card w facts level e same = heard-cleared c card (request w) same ∙ request-heard c w level (facts .mask) e
 
 -- ---- what is sent
 
@@ -63,7 +44,7 @@ pub request-turned : (w : Walk) (c card : Card) → isAccepted w ≡ true → w 
 unfolding heardBy roomAfter
 request-turned w c card accepted level running e same =
     turn-asked w card accepted
-    ∙ rw (sent-request w running e, take-over (request w) noBytes) (request-heard c card w (accepted-of-is-accepted w accepted) level e same)
+    ∙ rw (sent-request w running e, take-over (request w) noBytes) (request-stepped c card w (accepted-of-is-accepted w accepted) level e same)
 
 pub mark-turned : (w : Walk) (s : ℕ) (c card : Card) → isAccepted w ≡ true → isRunning w ≡ true → w .slot ≡ suc s
     → card ≡ inStep (w .family) (w .level) (w .mask) s c → turnOf w card ≡ stepped w c

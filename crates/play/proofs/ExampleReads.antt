@@ -9,9 +9,8 @@ use lib.Dec.{eqb}
 use lib.ListN.{length, take, drop, getD}
 use Rattle.crc.specs.Check.{sealed, checkBytes}
 use Rattle.frames.specs.Flags.{flagsOf}
-use Rattle.frames.specs.Frame.{shortest, longest}
 use Rattle.frames.specs.Field.{fieldOf, fieldAt, fieldBytes}
-use Rattle.frames.proofs.Sound.{sound-of-sealed}
+use Rattle.frames.proofs.Sound.{sound-of-short}
 use Rattle.card.specs.declared.Card.{Card}
 use Rattle.card.specs.declared.Reply.{Reply}
 use Rattle.card.specs.declared.Reply.the-variants.{Error, Blocks, Information}
@@ -46,9 +45,9 @@ module _ (c : Card) (memory locks found : List ℕ) (listens : Listens c memory 
   request-judged : (option : Bool) (command : ℕ) (body : List ℕ) → length body ≤ 8 → eqb command 0x02 ≡ false → eqb command 0x25 ≡ false
       → decided c locks (sealed (flags option ∷ command ∷ body))
       ≡ judged (cleared c) locks (flagsOf (flags option)) (sealed (flags option ∷ command ∷ body)) 2 command
-  unfolding decided requested unaddressed sorted flagsOf sealed cleared remade shortest longest
-  request-judged true command body few a b = rw (sound-of-sealed (0x42 ∷ command ∷ body) (omega arith) (omega arith), listens .heard, a, b)
-  request-judged false command body few a b = rw (sound-of-sealed (0x02 ∷ command ∷ body) (omega arith) (omega arith), listens .heard, a, b)
+  unfolding decided requested unaddressed sorted flagsOf sealed cleared remade
+  request-judged true command body few a b = rw (sound-of-short (0x42 ∷ command ∷ body) (omega arith) (omega arith), listens .heard, a, b)
+  request-judged false command body few a b = rw (sound-of-short (0x02 ∷ command ∷ body) (omega arith) (omega arith), listens .heard, a, b)
 
   information-decided : decided c locks (sealed (0x02 ∷ 0x2b ∷ [])) ≡ deed (cleared c) Leave Information
   unfolding judged commanded width isListed bodyAsked refusesOption bodyLength fieldAt fieldOf flagsOf sealed checkBytes

@@ -10,9 +10,9 @@ use lib.ListN.{length, take, getD, length-append}
 use lib.Seq.{take-at}
 use Rattle.crc.specs.Check.{sealed, checkBytes}
 use Rattle.frames.specs.Flags.{flagsOf}
-use Rattle.frames.specs.Frame.{isSound, shortest, longest}
+use Rattle.frames.specs.Frame.{isSound}
 use Rattle.frames.specs.Field.{fieldOf, fieldAt}
-use Rattle.frames.proofs.Sound.{sound-of-sealed}
+use Rattle.frames.proofs.Sound.{sound-of-short}
 use Rattle.slots.specs.Fits.{maskBytes, fitsSlot}
 use Rattle.card.specs.declared.Card.{Card}
 use Rattle.card.specs.declared.Reply.the-variants.{Silence}
@@ -34,8 +34,7 @@ use Rattle.play.specs.Examples.{silence, speech, presents, inSlot, inven
 -- eight bytes of mask at most
 module _ (n : ℕ) (mask : List ℕ) (k : length mask ≡ maskBytes n) (few : length mask ≤ 8) where
   inventory-sound : isSound (inventory n mask) ≡ true
-  unfolding shortest longest
-  inventory-sound = sound-of-sealed (0x06 ∷ 0x01 ∷ n ∷ mask) (omega arith) (omega arith)
+  inventory-sound = sound-of-short (0x06 ∷ 0x01 ∷ n ∷ mask) (omega arith) (omega arith)
 
   mask-taken : (rest : List ℕ) → take (min 8 (maskBytes n)) (mask ++ rest) ≡ mask
   mask-taken rest = take-at mask rest (min 8 (maskBytes n)) (omega (arith, k, few))

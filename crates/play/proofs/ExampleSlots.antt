@@ -23,7 +23,7 @@ use Rattle.card.specs.declared.Sequence.the-variants.{Running}
 use Rattle.card.specs.Record.{isQuiet, shapeFits, sequenceFits, heldFits, isAccepted, remade, cleared, inSequence}
 use Rattle.card.specs.Inventory.{present}
 use Rattle.card.specs.Mark.{marked, released, moved}
-use Rattle.play.specs.Refusal.{lengthsFit, locksFit, roomFits, refusal}
+use Rattle.play.specs.Refusal.{lengthsFit, locksFit, roomAsked, roomFits, refusal}
 use Rattle.play.specs.Events.{Outcome, frameEvent, markEvent}
 use Rattle.play.specs.Examples.{silence, speech, presents, inSlot, inventory}
 use Rattle.play.proofs.EventWays.{event-served, frame-served}
@@ -42,7 +42,7 @@ module _ (c : Card) (memory locks : List ℕ) where
 
   -- it is refused no more than at the start
   still-served : (room s : ℕ) → s ≤ 15 → refusal c (length memory) locks room ≡ 0 → refusal (stands s) (length memory) locks room ≡ 0
-  unfolding refusal isAccepted sequenceFits heldFits lengthsFit roomFits inSequence cleared remade
+  unfolding refusal isAccepted sequenceFits heldFits lengthsFit roomAsked roomFits inSequence cleared remade
   still-served room s h e =
       rw (le-leb s 15 h)
       (go (shapeFits (c .blocks) (c .size)) (sequenceFits (c .sequence)) (heldFits (c .held)) (lengthsFit c (length memory) (length locks))

@@ -15,7 +15,7 @@ use Rattle.slots.specs.Fits.{maskBytes, fitsMask, fitsSlot}
 use Rattle.card.specs.declared.Card.{Card}
 use Rattle.card.specs.declared.Sequence.the-variants.{Running}
 use Rattle.card.specs.Record.{isQuiet, shapeFits, sequenceFits, heldFits, isAccepted, cleared, inSequence}
-use Rattle.play.specs.Refusal.{lengthsFit, locksFit, roomFits, refusal}
+use Rattle.play.specs.Refusal.{lengthsFit, locksFit, roomAsked, roomFits, refusal}
 use Rattle.play.specs.Events.{frameEvent}
 use Rattle.play.specs.Examples.{Listens, blank, silence, presents, inventory, CardExamples}
 use Rattle.play.proofs.EventWays.{frame-served}
@@ -24,7 +24,7 @@ use Rattle.play.proofs.ExampleRequests.{inventory-taken, inventory-pass
 use Rattle.play.proofs.ExampleSlots.{slots-heard}
 
 some-card : Listens blank (replicate 128 0x00) (replicate 32 0) (replicate 163 0x00)
-unfolding blank refusal isAccepted shapeFits sequenceFits heldFits lengthsFit locksFit roomFits isQuiet
+unfolding blank refusal isAccepted shapeFits sequenceFits heldFits lengthsFit locksFit roomAsked roomFits isQuiet
 some-card = record { served = refl; heard = refl }
 
 -- slot 0 of a mask of 60 bits: these are the UID's 64

@@ -16,6 +16,7 @@ pub mod EventWays
 pub mod Outcomes
 pub mod EventKeeps
 pub mod Stays
+pub mod Lengths
 pub mod Life
 pub mod Unique
 pub mod ExampleReads

@@ -18,7 +18,7 @@ use Rattle.requests.specs.Frame.{decided}
 use Rattle.card.specs.Mark.{marked}
 use Rattle.card.proofs.Accepted.{tests-of}
 use Rattle.card.proofs.Changes.{marked-keeps}
-use Rattle.play.specs.Refusal.{lengthsFit, roomFits, refusal}
+use Rattle.play.specs.Refusal.{lengthsFit, roomAsked, roomFits, refusal}
 use Rattle.play.specs.Fits.{effectFits, replyFits, Kept, DeedFits}
 use Rattle.play.specs.Steps.{isBrief, Ready, DeedReady}
 use Rattle.play.proofs.Brief.{brief-fits}
@@ -41,8 +41,8 @@ ready-of c memory locks room e =
 
 -- a card of the same shape is ready too
 module _ (card c : Card) (same : Kept card c) where
-  ready-shape : (memory : ℕ) (locks : List ℕ) (room : ℕ) → Ready card memory (length locks) room → Ready c memory (length locks) room
-  unfolding roomFits
+  pub ready-shape : (memory : ℕ) (locks : List ℕ) (room : ℕ) → Ready card memory (length locks) room → Ready c memory (length locks) room
+  unfolding roomFits roomAsked
   ready-shape memory locks room r =
       record {
         shape = rw (same .blocks, same .size) (r .shape);

@@ -23,11 +23,11 @@ use Rattle.requests.specs.declared.Effect.{Effect}
 use Rattle.requests.specs.declared.Effect.the-variants.{Leave, Write, Lock}
 use Rattle.requests.specs.Frame.{decided}
 use Rattle.requests.proofs.Keeps.{decided-keeps}
-use Rattle.play.specs.Refusal.{lengthsFit, locksFit, roomFits, refusal, Accepted}
+use Rattle.play.specs.Refusal.{lengthsFit, locksFit, roomAsked, roomFits, refusal, Accepted}
 use Rattle.play.specs.Effects.{memoryAfter, locksAfter}
 use Rattle.play.specs.Answer.{replyBytes}
 use Rattle.play.specs.Fits.{effectFits, replyFits, Kept}
-use Rattle.play.specs.Steps.{DeedReady}
+use Rattle.play.specs.Steps.{Ready, DeedReady}
 use Rattle.play.specs.Events.{answered, Outcome, replied, event, carriedOut, frameEvent, markEvent, offEvent, AcceptedNext}
 use Rattle.play.proofs.Within.{Written, write-within}
 use Rattle.play.proofs.Stores.{length-stored}
@@ -36,7 +36,7 @@ use Rattle.play.proofs.Kept.{self-kept, kept-changes}
 use Rattle.play.proofs.Turns.{marked-brief}
 use Rattle.play.proofs.Brief.{brief-fits}
 use Rattle.play.proofs.Refusals.{Passes, passes-of, refusal-none}
-use Rattle.play.proofs.ReadyFor.{deed-ready}
+use Rattle.play.proofs.ReadyFor.{ready-of, ready-shape, deed-ready}
 use Rattle.play.proofs.EventWays.{event-served}
 
 -- ---- lengths, and lock bytes
@@ -49,7 +49,7 @@ length-answered body found h = go (eqb (length body) 0)
     go true = refl
     go false = length-over (sealed body) found (rw (length-sealed body) h)
 
-length-memory : (c : Card) (frame memory : List ℕ) (e : Effect) → effectFits c frame e ≡ true → length memory ≡ c .blocks * c .size
+pub length-memory : (c : Card) (frame memory : List ℕ) (e : Effect) → effectFits c frame e ≡ true → length memory ≡ c .blocks * c .size
     → length (memoryAfter c frame memory e) ≡ length memory
 unfolding memoryAfter
 length-memory c frame memory Leave fits is = refl
@@ -58,7 +58,7 @@ length-memory c frame memory (Write first n place) fits is =
     length-stored frame place (c .size) first n memory (w .source) (rw is (w .inside))
 length-memory c frame memory (Lock block) fits is = refl
 
-length-locks : (locks : List ℕ) (e : Effect) → length (locksAfter locks e) ≡ length locks
+pub length-locks : (locks : List ℕ) (e : Effect) → length (locksAfter locks e) ≡ length locks
 unfolding locksAfter
 length-locks locks Leave = refl
 length-locks locks (Write first n place) = refl
@@ -87,16 +87,17 @@ module _ (card : Card) (memory locks found : List ℕ) (a : Accepted card memory
   -- a card that is kept and accepted, over memory and lock bytes of the same lengths
   replied-next : (c : Card) (m l : List ℕ) (reply : Reply) → Kept card c → isAccepted c ≡ true → length m ≡ length memory → length l ≡ length locks
       → locksFit l ≡ true → replyFits c reply ≡ true → AcceptedNext (replied c m l reply found)
-  unfolding replied lengthsFit roomFits
+  unfolding replied lengthsFit roomFits roomAsked
   replied-next c m l reply same accepted em el marks fits =
-      let space : roomFits c (length found) ≡ true = rw (same .blocks, same .size) (passes .space) in
+      let ready : Ready c (length m) (length l) (length found) =
+      rw (em, el) (ready-shape card c same (length memory) locks (length found) (ready-of card (length memory) locks (length found) a)) in
       let body : List ℕ = replyBytes c m l reply in
       refusal-none c (length m) l (length (answered body found))
       (record {
         accepted = accepted;
         lengths = rw (em, el, same .blocks, same .size) (passes .lengths);
         marks = marks;
-        space = rw (length-answered body found (reply-room c m l reply (length found) fits space)) space;
+        space = rw (length-answered body found (reply-room c m l reply (length found) ready fits)) (ready .fits);
       })
 
   event-next : (served : Outcome) → AcceptedNext served → AcceptedNext (event card memory locks found served)

@@ -1,5 +1,5 @@
 -- 01, Numbers of refused calls, 1 to 4, in the order for each of the card's three events.
-use Prim.Native.Nat.{ℕ, _+_, _*_}
+use Prim.Native.Nat.{ℕ, _+_, _*_, max}
 use mathlib.Core.Bool.{Bool, true, cond, _&&_}
 use mathlib.Core.List.{List, [], _∷_}
 use mathlib.Core.Path.{_≡_}
@@ -18,8 +18,11 @@ locksFit [] = true
 locksFit (b ∷ locks) = leb b 1 && locksFit locks
 
 -- 4: "answer room under 32 or under 3 + blocks × (size + 1)"
+unfoldable pub roomAsked : Card → ℕ
+roomAsked c = max 32 (3 + c .blocks * (c .size + 1))
+
 unfoldable pub roomFits : Card → ℕ → Bool
-roomFits c room = leb 32 room && leb (3 + c .blocks * (c .size + 1)) room
+roomFits c room = leb (roomAsked c) room
 
 -- "card, for each of the three events, 1, 2, 3, 4": the number of the refusal, or 0 where the call is served
 unfoldable pub refusal : Card → ℕ → List ℕ → ℕ → ℕ

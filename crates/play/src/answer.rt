@@ -5,6 +5,7 @@ ghost use mathlib.Core.List.{[], _∷_};
 ghost use Prim.Native.Nat.{_+_, _*_, _≤_, _<_};
 ghost use lib.ListN.{length};
 ghost use Rattle.card.specs.Record.{shapeFits};
+ghost use Rattle.card.specs.Reply.{lead};
 ghost use Rattle.play.specs.Fits.{replyFits};
 ghost use Rattle.play.specs.Steps.{isBrief, Ready, PutsReply};
 ghost use Rattle.play.specs.Answer.{blockRead, blocksRead, locksRead, information, presence, replyBytes};
@@ -68,7 +69,7 @@ fn put_block(
 ) -> usize
     requires { ⌜ block * size + size ≤ length (now memory) ⌝ }
     requires { ⌜ block < length (now locks) ⌝ }
-    requires { ⌜ at + (size + 1) ≤ length (now answer) ⌝ }
+    requires { ⌜ at + (size + lead option) ≤ length (now answer) ⌝ }
     ensures { λ r. ⌜ PutsAt at (blockRead (now (memory .entry)) (now (locks .entry)) size option block) (now (answer .entry)) r (now (answer .exit)) ⌝ }
 {
     if option {
@@ -91,7 +92,7 @@ fn put_blocks(
 ) -> usize
     requires { ⌜ (first + n) * size ≤ length (now memory) ⌝ }
     requires { ⌜ first + n ≤ length (now locks) ⌝ }
-    requires { ⌜ 1 + n * (size + 1) ≤ length (now answer) ⌝ }
+    requires { ⌜ 1 + n * (size + lead option) ≤ length (now answer) ⌝ }
     ensures { λ r. ⌜ Puts (0x00 ∷ blocksRead (now (memory .entry)) (now (locks .entry)) size option first n) (now (answer .entry)) r (now (answer .exit)) ⌝ }
 {
     answer[0] = 0x00;

@@ -7,10 +7,8 @@ use crate::told::tell;
 use crate::told::tell_blocks;
 use crate::up_to;
 use card::Card;
+use frames::LONGEST_ANSWER;
 use play::Served;
-
-// The room for the longest answer, as number 4 has it: 3 and, for each of 256 blocks, its lock byte and 32 bytes.
-const ROOM: usize = 8451;
 
 // One number of the card's shape, or 0 where it is over its limit: the card refuses such a shape.
 fn within(n: u32, most: usize) -> usize
@@ -53,7 +51,7 @@ pub(crate) fn play(
     memory: &mut [u8],
     locks: &mut [u8],
 ) -> Desk {
-    let mut room = [0u8; ROOM];
+    let mut room = [0u8; LONGEST_ANSWER];
     let m = up_to(cells(card), memory);
     let n = up_to(within(card.blocks, 256), locks);
     let served = serve(

@@ -11,11 +11,12 @@ use card::Card;
 use card::Held;
 use card::Mode;
 use card::Sequence;
+use frames::LONGEST_ANSWER;
 use libc::STDOUT_FILENO;
 use play::Served;
 
-// Room for all that is told of a line: its 256 bytes, an answer of 8451 in three each, and a record of less than 128.
-const MOST_TOLD: usize = 25737;
+// Room for all that is told of a line: its 256 bytes, an answer in three for each byte, and a record of less than 128.
+const MOST_TOLD: usize = 256 + 3 * LONGEST_ANSWER + 128;
 
 // Puts bytes at a place of a text, as many as it has room for, and returns the place after them.
 fn put(bytes: &[u8], text: &mut [u8], at: usize) -> usize

@@ -1,7 +1,7 @@
 // What the bytes mean: the card that a record of forty bytes holds.
 ghost use mathlib.Core.Path.{_≡_};
 ghost use mathlib.Core.List.{[]};
-ghost use Prim.Native.Nat.{_+_, _*_, _≤_};
+ghost use Prim.Native.Nat.{_+_, _≤_};
 ghost use lib.ListN.{length};
 ghost use Rattle.frames.specs.Field.{fieldAt};
 ghost use Rattle.record.specs.Record.{modeOf, sequenceOf, heldOf, cardOf};
@@ -10,18 +10,11 @@ use card::Held;
 use card::Mode;
 use card::Sequence;
 
-// Four bytes joined, the lowest first.
-fn join(b0: u8, b1: u8, b2: u8, b3: u8) -> u32
-    ensures { λ r. ⌜ r ≡ b0 + 256 * b1 + 65536 * b2 + 16777216 * b3 ⌝ }
-{
-    (b0 as u32) + 256 * (b1 as u32) + 65536 * (b2 as u32) + 16777216 * (b3 as u32)
-}
-
 fn four(bytes: &[u8], at: usize) -> u32
     requires { ⌜ at + 4 ≤ length (now bytes) ⌝ }
     ensures { λ r. ⌜ r ≡ fieldAt (now (bytes .entry)) at 4 ⌝ }
 {
-    join(bytes[at], bytes[at + 1], bytes[at + 2], bytes[at + 3])
+    frames::join(bytes[at], bytes[at + 1], bytes[at + 2], bytes[at + 3])
 }
 
 fn eight(bytes: &[u8], at: usize) -> u64

@@ -1,6 +1,7 @@
 -- Check, frames, text, slots and pulse tracks: the contract of each call asks nothing, says the claim that is written out here, and
 -- allows one result. By the contracts themselves. Assumes nothing. a: the arguments. r: what is returned. e: the parameters at exit.
 use mathlib.Core.Path.{_∙_, _≡_, refl, sym}
+use mathlib.Core.List.{[], _∷_}
 use Prim.Native.Nat.{_%_, _/_, _^_}
 use lib.Dec.{ltb}
 use lib.ListN.{getD}
@@ -14,7 +15,7 @@ use contract.Monad.{Fun}
 use denote.Ref.{now}
 use Rattle.crc.specs.Check.{checkOf, isSealed}
 use Rattle.frames.specs.Flags.{flagsOf}
-use Rattle.frames.specs.Field.{PutsField, fieldAt}
+use Rattle.frames.specs.Field.{PutsField, fieldAt, fieldOf}
 use Rattle.frames.specs.Frame.{Seals, isSound}
 use Rattle.hex.specs.Digits.{digit, digitOf, hasForm, numberAt}
 use Rattle.hex.specs.Rows.{PutsRow, ReadsRow, isRow}
@@ -28,6 +29,7 @@ use Rattle.crc.proofs.check as crc-check
 use Rattle.crc.proofs.is_sealed as crc-is-sealed
 use Rattle.frames.proofs.Flags.of as frames-flags-of
 use Rattle.frames.proofs.byte_at as frames-byte-at
+use Rattle.frames.proofs.join as frames-join
 use Rattle.frames.proofs.field as frames-field
 use Rattle.frames.proofs.put_field as frames-put-field
 use Rattle.frames.proofs.seal as frames-seal
@@ -71,6 +73,10 @@ module _ {M : Type 1} (𝓤 : URA M) (H : Heap 𝓤) (A : Atoms 𝓤) (mem : Mem
   frames-byte-at-contract : Contract 𝓤 H A frames-byte-at.ended (frames-byte-at.spec 𝓤 H A mem run) (frames-byte-at.clauses 𝓤 H A mem run)
       (λ κs a r e. r ≡ getD (now (a .0)) (a .1 .0) 0)
   frames-byte-at-contract = kept 𝓤 H A frames-byte-at.ended _ _ _ refl (λ κs a. (tt, id⊢ 𝓤 _)) (λ κs a g r e. id⊢ 𝓤 _) (λ κs a r s x y p q. (p ∙ sym q, refl))
+
+  frames-join-contract : Contract 𝓤 H A frames-join.ended (frames-join.spec 𝓤 H A mem run) (frames-join.clauses 𝓤 H A mem run)
+      (λ κs a r e. r ≡ fieldOf (a .0 ∷ a .1 .0 ∷ a .1 .1 .0 ∷ a .1 .1 .1 .0 ∷ []))
+  frames-join-contract = kept 𝓤 H A frames-join.ended _ _ _ refl (λ κs a. (tt, id⊢ 𝓤 _)) (λ κs a g r e. id⊢ 𝓤 _) (λ κs a r s x y p q. (p ∙ sym q, refl))
 
   frames-field-contract : Contract 𝓤 H A frames-field.ended (frames-field.spec 𝓤 H A mem run) (frames-field.clauses 𝓤 H A mem run)
       (λ κs a r e. r ≡ fieldAt (now (a .0)) (a .1 .0) (a .1 .1 .0))

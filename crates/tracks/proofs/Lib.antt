@@ -1,4 +1,3 @@
-pub mod Every
 pub mod Patterns
 pub mod Units
 pub mod CodeWays

@@ -9,9 +9,9 @@ use borrow.Author.Tests.{eqb-true, ltb-true}
 use lib.Dec.{eqb, ltb}
 use lib.ListN.{length}
 use lib.Pow.{shr-shr}
+use Rattle.lent.proofs.Every.{every, every-at}
 use Rattle.tracks.specs.Track.{pattern, quad}
 use Rattle.tracks.specs.Steps.{pairOf, joined, byteOf}
-use Rattle.tracks.proofs.Every.{every, every-at}
 use Rattle.tracks.proofs.Patterns.{pattern-of-pair}
 
 pub quad-read : (v : ℕ) → v < 256 → byteOf 0 (quad v) ≡ v

@@ -7,9 +7,9 @@ use native.Mathlib.Omega.{arith}
 use lib.Bits.{bitAnd, bitOr}
 use lib.Dec.{eqb}
 use borrow.Author.Tests.{eqb-true, eq-eqb, ne-eqb}
+use Rattle.lent.proofs.Every.{every, every-at}
 use Rattle.tracks.specs.Track.{pattern}
 use Rattle.tracks.specs.Steps.{pairOf}
-use Rattle.tracks.proofs.Every.{every, every-at}
 
 -- one of four, as the code picks it: by whether the pair's high bit is 0, then by whether its low bit is
 abbrev pub picked : Bool → Bool → ℕ

@@ -2,7 +2,7 @@
 use borrow.Author.Needs.{needs}
 use native.Mathlib.Omega.{arith}
 use lib.ListN.{length-set}
-use Rattle.play.proofs.Blocks.{puts-block, puts-locked}
+use Rattle.play.proofs.Blocks.{lead-asked, puts-block, puts-locked}
 use Rattle.play.proofs.answer.put_block.Statement.{statement}
 use Rattle.play.proofs.answer.put_block.Tie as tie
 
@@ -10,7 +10,7 @@ shared-slice-read-answer : tie.Need-shared-slice-read-answer
 shared-slice-read-answer c = search needs
 
 slice-write-answer : tie.Need-slice-write-answer
-slice-write-answer c = search needs
+slice-write-answer c = omega (arith, lead-asked (c .before .if1 .taken))
 
 mul-copy : tie.Need-mul-copy
 mul-copy c = search needs
@@ -19,7 +19,7 @@ add-copy : tie.Need-add-copy
 add-copy c = search needs
 
 copy-requires : tie.Need-copy-requires
-copy-requires c κs = (c .before .before .before .before .before .before .pre .0, simp length-set (omega arith))
+copy-requires c κs = (c .before .before .before .before .before .before .pre .0, simp length-set (omega (arith, lead-asked (c .before .before .if1 .taken))))
 
 add-result : tie.Need-add-result
 add-result c = search needs
@@ -35,7 +35,7 @@ returns c =
     let if1 = c .before .before .before .before .before .if1 in
     let copy = c .before .before .copy in
     let asked = c .before .before .before .before .before .before .before .before .before .pre in
-    rw (if1 .taken, copy .ensures) (puts-locked _ _ _ _ _ _ (asked .0) (asked .1 .1))
+    rw (if1 .taken, copy .ensures) (puts-locked _ _ _ _ _ _ (asked .0) (rw (lead-asked (if1 .taken)) at (asked .1 .1)))
 
 mul-copy-2 : tie.Need-mul-copy-2
 mul-copy-2 c = search needs

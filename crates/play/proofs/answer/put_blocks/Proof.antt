@@ -48,8 +48,9 @@ loop-again c =
     let loop = c .before .before .before .before .before .loop in
     let test = c .before .before .before .before .loop-test in
     let put-block = c .before .before .put-block in
+    let within = block-within (args .first + loop .i) (args .first + args .n) (args .size) (omega arith) in
     let room = sofar-room (loop .inv .2) (args .n) (length (args .answer .now)) (test .taken) (asked .1 .1) in
-    (omega arith, omega arith, sofar-suc (loop .inv .2) (put-block .ensures) (rw length-set room))
+    (omega arith, omega arith, sofar-suc (loop .inv .2) (put-block .ensures) (omega arith) (rw length-set room))
 
 same-length : tie.Need-same-length Inv-loop μ-loop
 same-length c = omega (arith, simp length-set at (c .before .loop .inv .1))
@@ -60,7 +61,7 @@ returns c =
     let asked = c .before .before .before .before .before .pre in
     let loop = c .before .loop in
     let past : loop .i ≡ args .n = omega arith in
-    puts-blocks (args .answer .now) (rw past at (loop .inv .2)) (asked .1 .1)
+    puts-blocks (args .answer .now) (rw past at (loop .inv .2)) (asked .0) (asked .1 .1)
 
 pub put-blocks-spec : {M : Type 1} → statement M
 put-blocks-spec =

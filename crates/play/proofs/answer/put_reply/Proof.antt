@@ -2,8 +2,9 @@
 -- that fits. Assumes nothing.
 use borrow.Author.Needs.{needs}
 use native.Mathlib.Omega.{arith}
+use native.Mathlib.Nat.{mul-le-mul-right}
 use lib.ListN.{length}
-use Rattle.play.proofs.Room.{room-of, readable, reply-put}
+use Rattle.play.proofs.Room.{room-of, blocks-room, status-room, reply-put}
 use Rattle.play.specs.Answer.{replyBytes}
 use Rattle.play.proofs.Brief.{brief-bytes, is-brief}
 use Rattle.play.proofs.Within.{blocks-within, status-within}
@@ -26,9 +27,11 @@ put-blocks-requires : tie.Need-put-blocks-requires
 put-blocks-requires c κs =
     let args = c .before .before .before .before .before .before .before .before .args in
     let asked = c .before .before .before .before .before .before .before .before .pre in
-    let within = blocks-within (args .card) (c .before .before .reply .given .1) (asked .1) in
-    let reads = readable (args .card) _ _ (length (args .answer .now)) within (asked .0 .fits) in
-    (omega (arith, reads .stored, asked .0 .stored), (omega (arith, within, asked .0 .marks), omega (arith, reads .answered)))
+    let is = c .before .before .reply .given .1 in
+    let within = blocks-within (args .card) is (asked .1) in
+    let stored = mul-le-mul-right (args .card .size) within in
+    let room = blocks-room (args .card) (length (args .answer .now)) is (asked .1) (asked .0 .fits) in
+    (omega (arith, stored, asked .0 .stored), (omega (arith, within, asked .0 .marks), omega (arith, room)))
 
 enum-known-reply-2 : tie.Need-enum-known-reply-2
 enum-known-reply-2 c = search needs
@@ -43,9 +46,10 @@ put-locks-requires : tie.Need-put-locks-requires
 put-locks-requires c κs =
     let args = c .before .before .before .before .before .before .before .before .args in
     let asked = c .before .before .before .before .before .before .before .before .pre in
-    let within = status-within (args .card) (c .before .before .reply2 .given .1) (asked .1) in
-    let room = room-of (args .card) (length (args .answer .now)) (asked .0 .fits) in
-    (omega (arith, within, asked .0 .marks), omega (arith, within, room .locks-all))
+    let is = c .before .before .reply2 .given .1 in
+    let within = status-within (args .card) is (asked .1) in
+    let room = status-room (args .card) (length (args .answer .now)) is (asked .1) (asked .0 .fits) in
+    (omega (arith, within, asked .0 .marks), omega (arith, room))
 
 enum-told : tie.Need-enum-told
 enum-told c = search needs

@@ -15,24 +15,22 @@ use Rattle.tracks.proofs.coder.code.Tie as tie
 
 returns : tie.Need-returns
 unfolding longest
-returns c = codes-too-long _ _ _ (omega arith)
+returns c = codes-too-long _ _ _ (c .if1 .taken)
 
 returns-2 : tie.Need-returns-2
 unfolding longest
-returns-2 c = codes-no-coding _ _ _ (omega arith) (omega arith)
+returns-2 c = codes-no-coding _ _ _ (c .before .if1 .left) (c .if2 .taken)
 
 unit-of-requires : tie.Need-unit-of-requires
 unit-of-requires c κs = search needs
 
 mul-n : tie.Need-mul-n
-unfolding longest
 mul-n c =
     let args = c .before .before .before .before .before .args in
     let unit-of = c .unit-of in
     omega (arith, units-most (args .coding) (length (args .frame .now)), ap (λ (u : ℕ). u * length (args .frame .now)) (unit-of .ensures))
 
 add-n : tie.Need-add-n
-unfolding longest
 add-n c =
     let args = c .before .before .before .before .before .args in
     let unit-of = c .unit-of in
@@ -40,7 +38,7 @@ add-n c =
 
 returns-3 : tie.Need-returns-3
 unfolding longest
-returns-3 c = codes-no-room _ _ _ (omega arith) (omega arith) (rw (c .before .unit-of .ensures) at (c .if3 .taken))
+returns-3 c = codes-no-room _ _ _ (c .before .before .before .if1 .left) (omega arith) (rw (c .before .unit-of .ensures) at (c .if3 .taken))
 
 put-track-requires : tie.Need-put-track-requires
 put-track-requires c κs =
@@ -61,6 +59,7 @@ returns-4 c =
     let unit-of = c .before .before .before .before .before .unit-of in
     let args = c .before .before .before .before .before .before .before .before .before .before .args in
     let put-track = c .before .before .put-track in
+    let first = c .before .before .before .before .before .before .before .if1 in
     let third = c .before .before .before .before .if3 in
     rw (
       unit-of .ensures,
@@ -70,7 +69,7 @@ returns-4 c =
             (length (args .frame .now)),
       )),
       put-track .ensures,
-    ) (codes-served _ _ _ (omega arith) (omega arith) (rw (unit-of .ensures) at (third .left)))
+    ) (codes-served _ _ _ (first .left) (omega arith) (rw (unit-of .ensures) at (third .left)))
 
 pub code-spec : {M : Type 1} → statement M
 code-spec =
