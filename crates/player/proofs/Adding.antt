@@ -14,8 +14,10 @@ use lib.ListN.{length, take, getD, set, length-take, length-append}
 use lib.Seq.{take-suc, take-nil, length-take-le}
 use Rattle.lent.specs.Lent.{over, placed}
 use Rattle.lent.proofs.Over.{length-placed, placed-none, placed-placed, placed-start, set-placed, take-over}
-use Rattle.hex.specs.Rows.{rowText, putLeaves, PutsRow}
+use Rattle.hex.specs.Rows.{rowText}
+use Rattle.hex.specs.Put.{PutsText}
 use Rattle.hex.proofs.Rows.{length-row-text}
+use Rattle.hex.proofs.Put.{put-leaves}
 use Rattle.player.specs.Text.{cut, Adds}
 
 take-append : (n : ℕ) (s v : List ℕ) → take n (s ++ v) ≡ take n s ++ take (n - length s) v
@@ -121,17 +123,12 @@ copied-all at s e f room count is-room is-count is =
 
 -- ---- a row that was put into a buffer of its own
 
-row-over : (bytes found left : List ℕ) {r : ℤ} → PutsRow bytes found 0 r left → 3 * length bytes ≤ length found → left ≡ over (rowText bytes) found
-unfolding putLeaves
-row-over bytes found left p h =
-    let room : leb (0 + 3 * length bytes) (length found) ≡ true = le-leb (0 + 3 * length bytes) (length found) (omega arith) in
-    rw room at (p .leaves) ∙ placed-start (rowText bytes) found
-
-pub row-taken : (bytes found left : List ℕ) {r : ℤ} → PutsRow bytes found 0 r left → 3 * length bytes ≤ length found
+pub row-taken : (bytes found left : List ℕ) {r : ℤ} → PutsText (rowText bytes) found 0 r left → 3 * length bytes ≤ length found
     → take (3 * length bytes) left ≡ rowText bytes
 row-taken bytes found left p h =
-    rw (row-over bytes found left p h, ← (length-row-text bytes)) (take-over (rowText bytes) found)
+    let long : length (rowText bytes) ≡ 3 * length bytes = length-row-text bytes in
+    rw (put-leaves p (omega arith), placed-start (rowText bytes) found, ← long) (take-over (rowText bytes) found)
 
-pub row-length : (bytes found left : List ℕ) {r : ℤ} → PutsRow bytes found 0 r left → 3 * length bytes ≤ length found
+pub row-length : (bytes found left : List ℕ) {r : ℤ} → PutsText (rowText bytes) found 0 r left → 3 * length bytes ≤ length found
     → 3 * length bytes ≡ length (take (3 * length bytes) left)
 row-length bytes found left p h = rw (row-taken bytes found left p h) (sym (length-row-text bytes))
