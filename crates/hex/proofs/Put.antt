@@ -2,14 +2,21 @@
 -- By the one test of the definitions. Assumes nothing.
 use mathlib.Core.Path.{_≡_, refl, sym, ap, _∙_}
 use mathlib.Core.List.{List, [], _∷_, _++_, append-assoc}
-use Prim.Native.Nat.{ℕ, suc, _+_, _/_, _≤_, _<_}
+use Prim.Native.Nat.{ℕ, suc, _+_, _/_, _^_, _≤_, _<_}
 use native.Mathlib.Numerals.{add-one}
 use native.Mathlib.Omega.{arith}
+use borrow.Author.Needs.{sfits-of}
 use borrow.Author.Tests.{le-leb, lt-leb}
-use lib.IntN.{ℤ, pos}
+use lib.Dec.{T}
+use lib.IntN.{ℤ, pos, natAbs}
+use lib.Signed.{nonNeg, mag}
 use lib.ListN.{length, drop, set, length-append, length-set}
 use lib.Seq.{drop-cons, getD-set-same, take-set-le, drop-set-lt, append-snoc}
+use mir.Syntax.{w64}
+use mir.Val.{Fits, toZ, ofZ}
+use mir.ValLaws.{toZ-ofZ}
 use Rattle.lent.specs.Lent.{placed, refused}
+use Rattle.lent.specs.Puts.{PutsAt}
 use Rattle.lent.proofs.Over.{placed-none}
 use Rattle.hex.specs.Digits.{digit, hexDigits}
 use Rattle.hex.specs.Put.{putAnswer, putLeaves, PutsText}
@@ -32,15 +39,28 @@ put-served bytes text left at n is h p =
 
 -- ---- where there is room
 
-pub put-answer : {bytes text left : List ℕ} {at : ℕ} {r : ℤ} → PutsText bytes text at r left → at + length bytes ≤ length text
-    → r ≡ pos (at + length bytes)
-unfolding putAnswer
-put-answer {bytes} {text} {left} {at} p h = p .answer ∙ rw (le-leb (at + length bytes) (length text) h) refl
-
 pub put-leaves : {bytes text left : List ℕ} {at : ℕ} {r : ℤ} → PutsText bytes text at r left → at + length bytes ≤ length text
     → left ≡ placed at bytes text
 unfolding putLeaves
 put-leaves {bytes} {text} {left} {at} p h = p .leaves ∙ rw (le-leb (at + length bytes) (length text) h) refl
+
+-- the answer r, kept in an i64 and read back
+module _ {bytes text left : List ℕ} {at : ℕ} {r : ℤ} (ok : mag r < 2 ^ 63) (p : PutsText bytes text at r left) (h : at + length bytes ≤ length text) where
+  answer : r ≡ pos (at + length bytes)
+  unfolding putAnswer
+  answer = p .answer ∙ rw (le-leb (at + length bytes) (length text) h) refl
+
+  read-back : toZ w64 (ofZ w64 r) ≡ pos (at + length bytes)
+  read-back = toZ-ofZ w64 r (sfits-of ok) ∙ answer
+
+  -- and cast to a usize
+  pub put-cast : T (nonNeg (toZ w64 (ofZ w64 r))) × Fits w64 (natAbs (toZ w64 (ofZ w64 r)))
+  put-cast =
+      let few : mag (pos (at + length bytes)) < 2 ^ 63 = rw answer at ok in
+      rw read-back (tt, omega arith)
+
+  pub put-at : PutsAt at bytes text (natAbs (toZ w64 (ofZ w64 r))) left
+  put-at = record { next = ap natAbs read-back; leaves = put-leaves p h }
 
 -- ---- stores, the last byte first
 

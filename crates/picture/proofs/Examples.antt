@@ -19,7 +19,7 @@ use Rattle.row.proofs.SlotsAlike.{benchOf}
 use Rattle.row.proofs.Meaning.{tagsOf, tags-obey, tags-answer, freshField, bench-is-a-field}
 use Rattle.lines.proofs.Examples.{three-fit, three-read}
 use Rattle.hex.specs.Digits.{digit, hexDigits}
-use Rattle.rack.specs.Output.{decimal}
+use Rattle.hex.specs.Decimal.{decimalOf, decimal}
 use Rattle.rack.proofs.Examples.{bench}
 use Rattle.picture.specs.Drawn.{roundShown, tailShown, lineHead, heading, twinsLine, drawn, pictured}
 use Rattle.picture.specs.Meaning.{signFor}
@@ -27,7 +27,7 @@ use Rattle.picture.specs.Examples.{threeDrawn, ThreeDrawn}
 use Rattle.picture.proofs.OverUids.{signed, overUids, bench-drawn}
 
 three-over : heading ++ overUids three mostSlots (record { walk = started 256; list = noUids }) ≡ threeDrawn
-unfolding heading mostSlots overUids signed signFor lineHead roundShown tailShown decimal digit hexDigits stood isRunning started noMarks noUids walkAfter listAfter endsAtOnce noted listNoted passed turned walk.ended counted marked atNextSlot opened openedAt remade openedMask maskLength withMark withoutMark waits lowest lowestFrom deepest deepestOf levels places mostRounds called ending slotOf
+unfolding heading mostSlots overUids signed signFor lineHead roundShown tailShown decimal decimalOf digit hexDigits stood isRunning started noMarks noUids walkAfter listAfter endsAtOnce noted listNoted passed turned walk.ended counted marked atNextSlot opened openedAt remade openedMask maskLength withMark withoutMark waits lowest lowestFrom deepest deepestOf levels places mostRounds called ending slotOf
 three-over = refl
 
 -- ---- the end of the walk

@@ -1,5 +1,5 @@
 pub mod InputMeaning
-mod Digits
+pub mod Lengths
 mod Printed
 mod BenchWays
 pub mod Start

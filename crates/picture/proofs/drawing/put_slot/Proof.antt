@@ -21,7 +21,7 @@ put-sign-requires c κs =
     let args = c .before .before .before .before .before .before .before .before .args in
     let pre = c .before .before .before .before .before .before .before .before .pre in
     let put-head = c .before .before .before .before .before .put-head in
-    omega (arith, put-head .ensures .next, head-most (args .walk) (accepted-of-is-accepted _ (pre .0) .level))
+    omega (arith, put-head .ensures .next, head-most (args .walk) (accepted-of-is-accepted _ (pre .0)))
 
 same-length : tie.Need-same-length
 same-length c = search needs
@@ -35,7 +35,7 @@ returns c =
     let ends-line = c .before .before .before .before .ends-line in
     let put-sign = c .before .before .put-sign in
     slot-puts _ _ _ (sign .ensures) (ends-line .ensures) (put-head .ensures) (put-sign .ensures)
-    (omega (arith, put-head .ensures .next, head-most (args .walk) (accepted-of-is-accepted _ (pre .0) .level)))
+    (omega (arith, put-head .ensures .next, head-most (args .walk) (accepted-of-is-accepted _ (pre .0))))
 
 pub put-slot-spec : {M : Type 1} → statement M
 put-slot-spec =

@@ -1,6 +1,7 @@
--- `picture::drawing::put_twins` meets its contract: nothing, or a word and a UID one after the other (Adding.antt). Assumes nothing.
+-- `picture::drawing::put_twins` meets its contract: nothing, or a word, a UID and the line's end one after the other (Adding.antt). Assumes nothing.
 use native.Mathlib.Omega.{arith}
 use borrow.Author.Needs.{needs}
+use Rattle.hex.proofs.Digits.{length-hex-digits}
 use Rattle.picture.proofs.Adding.{digit-above, twins-none, twins-puts}
 use Rattle.picture.proofs.drawing.put_twins.Statement.{statement}
 use Rattle.picture.proofs.drawing.put_twins.Tie as tie
@@ -14,34 +15,35 @@ slice-aggregate-put c = search needs
 put-requires : tie.Need-put-requires
 put-requires c κs = search needs
 
-cast-tail : tie.Need-cast-tail
-cast-tail c = search needs
+cast-uid : tie.Need-cast-uid
+cast-uid c = search needs
 
-add-tail : tie.Need-add-tail
-add-tail c =
+add-uid : tie.Need-add-uid
+add-uid c =
     let args = c .before .before .before .before .before .before .before .before .before .before .before .args in
     let pre = c .before .before .before .before .before .before .before .before .before .before .before .pre in
     rw (digit-above _ (pre .0) .shifted) (omega (arith, digit-above (args .desk .walk) (pre .0) .fits))
 
-tail-requires : tie.Need-tail-requires
-tail-requires c κs = search needs
+put-digits-requires : tie.Need-put-digits-requires
+put-digits-requires c κs = search needs
 
 slice-aggregate-put-2 : tie.Need-slice-aggregate-put-2
 slice-aggregate-put-2 c = search needs
 
 put-requires-2 : tie.Need-put-requires-2
-put-requires-2 c κs = search needs
+put-requires-2 c κs = omega (arith, rw length-hex-digits at (c .before .before .before .before .put-digits .ensures .next), c .before .before .before .before .before .before .before .before .before .before .put .ensures .next, c .before .before .before .before .before .before .before .before .before .before .before .before .before .before .before .before .before .pre .1)
 
 same-length : tie.Need-same-length
 same-length c = search needs
 
 returns-2 : tie.Need-returns-2
 returns-2 c =
-    let pre = c .before .before .before .before .before .before .before .before .before .before .before .before .before .before .before .before .before .pre in
-    let put = c .before .before .before .before .before .before .before .before .before .before .put in
-    let tail = c .before .before .before .before .before .tail in
-    let put2 = c .before .before .put2 in
-    twins-puts _ (pre .0) (omega arith) (tail .ensures) (put .ensures) (put2 .ensures) (omega (arith, put .ensures .next))
+    let pre = c .before .before .before .before .before .before .before .before .before .before .before .before .before .before .before .before .before .before .before .before .pre in
+    let put = c .before .before .before .before .before .before .before .before .before .before .before .before .before .put .ensures in
+    let digits = c .before .before .before .before .before .before .before .put-digits .ensures in
+    let line-end = c .before .before .put2 .ensures in
+    let places = rw length-hex-digits at (digits .next) in
+    twins-puts _ (pre .0) (omega arith) put digits line-end (omega (arith, put .next, line-end .next, pre .1))
 
 pub put-twins-spec : {M : Type 1} → statement M
 put-twins-spec =
@@ -50,9 +52,9 @@ put-twins-spec =
     returns
     slice-aggregate-put
     put-requires
-    cast-tail
-    add-tail
-    tail-requires
+    cast-uid
+    add-uid
+    put-digits-requires
     slice-aggregate-put-2
     put-requires-2
     same-length
