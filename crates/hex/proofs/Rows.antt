@@ -1,4 +1,4 @@
--- Laws of rows: a pair more is read or put, what stores make of a buffer, and the ways out of `read_row` and `put_row`.
+-- Laws of rows: a pair more is read or put, what stores make of a buffer, and the ways out of `read_row`.
 -- Assumes nothing.
 use mathlib.Core.Path.{_≡_, refl, ap, _∙_}
 use mathlib.Core.Bool.{true, false, _&&_}
@@ -13,7 +13,7 @@ use lib.Seq.{drop-cons, drop-length, take-suc-set, drop-set-lt, append-snoc}
 use Rattle.lent.specs.Lent.{placed, refused}
 use Rattle.lent.proofs.Over.{placed-none, placed-start}
 use Rattle.hex.specs.Digits.{digit, hexDigits}
-use Rattle.hex.specs.Rows.{isPair, isRow, pairOf, rowBytes, rowText, readAnswer, readLeaves, ReadsRow, putAnswer, putLeaves, PutsRow}
+use Rattle.hex.specs.Rows.{isPair, isRow, pairOf, rowBytes, rowText, readAnswer, readLeaves, ReadsRow}
 
 -- ---- reading
 
@@ -130,16 +130,3 @@ unfolding readAnswer readLeaves
 read-served text buffer left h is =
     let room = le-leb (length text / 3) (length buffer) h in
     record { answer = rw room; leaves = rw (room, is) (placed-start (rowBytes text) buffer) }
-
-pub put-refused : (bytes text : List ℕ) (at : ℕ) → length text < at + 3 * length bytes → PutsRow bytes text at (refused 8) text
-unfolding putAnswer putLeaves
-put-refused bytes text at h =
-    let short = lt-leb (at + 3 * length bytes) (length text) h in
-    record { answer = rw short; leaves = rw short }
-
-pub put-served : (bytes text left : List ℕ) (at : ℕ) → at + 3 * length bytes ≤ length text → left ≡ placed at (rowText bytes) text
-    → PutsRow bytes text at (pos (at + 3 * length bytes)) left
-unfolding putAnswer putLeaves
-put-served bytes text left at h is =
-    let room = le-leb (at + 3 * length bytes) (length text) h in
-    record { answer = rw room; leaves = rw (room, is) }

@@ -1,2 +1,4 @@
 pub mod Digits
+pub mod Decimal
 pub mod Rows
+pub mod Put

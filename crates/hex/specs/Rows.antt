@@ -6,7 +6,7 @@ use mathlib.Core.Path.{_≡_}
 use lib.Dec.{leb, eqb}
 use lib.IntN.{ℤ, pos}
 use lib.ListN.{length}
-use Rattle.lent.specs.Lent.{over, placed, refused}
+use Rattle.lent.specs.Lent.{over, refused}
 use Rattle.hex.specs.Digits.{digitOf, isDigit, hexDigits}
 
 -- a space and two digits
@@ -47,15 +47,3 @@ readLeaves text buffer = cond (leb (length text / 3) (length buffer)) (over (row
 pub record ReadsRow (text buffer : List ℕ) (r : ℤ) (left : List ℕ) : Type 0 where
   pub answer : r ≡ readAnswer text buffer
   pub leaves : left ≡ readLeaves text buffer
-
--- putting a row at a place of a text: the place after it, or number 8 (room short)
-unfoldable pub putAnswer : List ℕ → List ℕ → ℕ → ℤ
-putAnswer bytes text at = cond (leb (at + 3 * length bytes) (length text)) (pos (at + 3 * length bytes)) (refused 8)
-
-unfoldable pub putLeaves : List ℕ → List ℕ → ℕ → List ℕ
-putLeaves bytes text at = cond (leb (at + 3 * length bytes) (length text)) (placed at (rowText bytes) text) text
-
--- what `put_row` promises: its answer r, and the text that it leaves
-pub record PutsRow (bytes text : List ℕ) (at : ℕ) (r : ℤ) (left : List ℕ) : Type 0 where
-  pub answer : r ≡ putAnswer bytes text at
-  pub leaves : left ≡ putLeaves bytes text at

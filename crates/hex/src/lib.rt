@@ -1,10 +1,12 @@
-// Bytes as text: upper-case hexadecimal digits, and rows of pairs of them, each pair after a space.
+// Bytes as text: upper-case hexadecimal digits, rows of pairs of them, each pair after a space, and numbers in decimal.
 ghost use mathlib.Core.Path.{_≡_};
 ghost use Prim.Native.Nat.{_+_, _*_, _<_, _≤_};
 ghost use lib.ListN.{length, getD};
 ghost use Rattle.lent.specs.Lent.{placed};
-ghost use Rattle.hex.specs.Digits.{digitOf, digit, fits, hasForm, numberAt};
-ghost use Rattle.hex.specs.Rows.{isPair, isRow, pairOf, rowText, ReadsRow, PutsRow};
+ghost use Rattle.hex.specs.Digits.{digitOf, digit, hexDigits, fits, hasForm, numberAt};
+ghost use Rattle.hex.specs.Decimal.{decimal};
+ghost use Rattle.hex.specs.Rows.{isPair, isRow, pairOf, rowText, ReadsRow};
+ghost use Rattle.hex.specs.Put.{PutsText};
 
 // Number 8, room short.
 const ROOM_SHORT: i64 = -8;
@@ -152,7 +154,7 @@ fn fill(bytes: &[u8], text: &mut [u8], at: usize)
 
 // Puts the row for bytes at a place of a text, and returns the place after it.
 pub fn put_row(bytes: &[u8], text: &mut [u8], at: usize) -> i64
-    ensures { λ r. ⌜ PutsRow (now (bytes .entry)) (now (text .entry)) at r (now (text .exit)) ⌝ }
+    ensures { λ r. ⌜ PutsText (rowText (now (bytes .entry))) (now (text .entry)) at r (now (text .exit)) ⌝ }
 {
     let room = text.len();
     if room / 3 < bytes.len() {
@@ -164,4 +166,60 @@ pub fn put_row(bytes: &[u8], text: &mut [u8], at: usize) -> i64
     }
     fill(bytes, text, at);
     (at + n) as i64
+}
+
+// Puts bytes at a place of a text, and returns the place after them.
+pub fn put_bytes(bytes: &[u8], text: &mut [u8], at: usize) -> i64
+    ensures { λ r. ⌜ PutsText (now (bytes .entry)) (now (text .entry)) at r (now (text .exit)) ⌝ }
+{
+    let room = text.len();
+    if room < bytes.len() {
+        return ROOM_SHORT;
+    }
+    if room - bytes.len() < at {
+        return ROOM_SHORT;
+    }
+    let mut i = 0;
+    while i < bytes.len() {
+        text[at + i] = bytes[i];
+        i += 1;
+    }
+    (at + i) as i64
+}
+
+// Puts so many of a number's low digits at a place of a text, and returns the place after them.
+pub fn put_digits(n: u64, count: usize, text: &mut [u8], at: usize) -> i64
+    ensures { λ r. ⌜ PutsText (hexDigits count n) (now (text .entry)) at r (now (text .exit)) ⌝ }
+{
+    let room = text.len();
+    if room < count {
+        return ROOM_SHORT;
+    }
+    if room - count < at {
+        return ROOM_SHORT;
+    }
+    let mut left = count;
+    let mut rest = n;
+    while left > 0 {
+        left -= 1;
+        text[at + left] = digit(rest);
+        rest /= 16;
+    }
+    (at + count) as i64
+}
+
+// Puts a number in decimal at a place of a text, and returns the place after it.
+pub fn put_decimal(n: u64, text: &mut [u8], at: usize) -> i64
+    ensures { λ r. ⌜ PutsText (decimal n) (now (text .entry)) at r (now (text .exit)) ⌝ }
+{
+    let mut digits = [0u8; 20];
+    let mut first = 19;
+    digits[first] = digit(n % 10);
+    let mut rest = n / 10;
+    while rest > 0 {
+        first -= 1;
+        digits[first] = digit(rest % 10);
+        rest /= 10;
+    }
+    put_bytes(&digits[first..], text, at)
 }

@@ -17,7 +17,7 @@ use Rattle.row.specs.Row.{Played, noBytes}
 use Rattle.row.specs.Play.{noUids, ended}
 use Rattle.lines.proofs.Examples.{three-fit, three-read}
 use Rattle.hex.specs.Digits.{digit, hexDigits}
-use Rattle.rack.specs.Output.{decimal}
+use Rattle.hex.specs.Decimal.{decimalOf, decimal}
 use Rattle.picture.specs.Drawn.{roundShown, tailShown, lineHead, heading, twinsLine, drawn, pictured}
 use Rattle.meaning.specs.Signs.{signFor}
 use Rattle.meaning.specs.Examples.{threeDrawn, ThreeDrawn}
@@ -27,7 +27,7 @@ use Rattle.meaning.proofs.ThreePrinted.{bench}
 use Rattle.meaning.proofs.OverUids.{signed, overUids, bench-drawn}
 
 three-over : heading ++ overUids three (mostSlots levels) (record { walk = started 256; list = noUids }) ≡ threeDrawn
-unfolding heading mostSlots overUids signed signFor lineHead roundShown tailShown decimal digit hexDigits stood isRunning started startedOf noMarks noUids walkAfter listAfter endsAtOnce noted listNoted passed turned walk.ended counted marked atNextSlot opened openedAt remade openedMask maskLength withMark withoutMark waits lowest lowestFrom deepest deepestOf levels levelsOf places mostRounds called ending slotOf
+unfolding heading mostSlots overUids signed signFor lineHead roundShown tailShown decimal decimalOf digit hexDigits stood isRunning started startedOf noMarks noUids walkAfter listAfter endsAtOnce noted listNoted passed turned walk.ended counted marked atNextSlot opened openedAt remade openedMask maskLength withMark withoutMark waits lowest lowestFrom deepest deepestOf levels levelsOf places mostRounds called ending slotOf
 three-over = refl
 
 -- ---- the end of the walk

@@ -18,7 +18,8 @@ use Rattle.row.specs.Play.{noUids, ended}
 use Rattle.lines.specs.Examples.{threeLines}
 use Rattle.lines.proofs.Examples.{ThreeRead, three-fit, three-read, three-read-ended}
 use Rattle.hex.specs.Digits.{digit, hexDigits}
-use Rattle.rack.specs.Output.{word, decimal, uidLines, verdictLine, heading, report}
+use Rattle.hex.specs.Decimal.{decimalOf, decimal}
+use Rattle.rack.specs.Output.{word, uidLines, verdictLine, heading, report}
 use Rattle.rack.specs.Bench.{printed}
 use Rattle.meaning.specs.Examples.{threePrinted, Bench}
 use Rattle.meaning.proofs.SlotsAlike.{benchOf}
@@ -28,7 +29,7 @@ use Rattle.meaning.proofs.Bench.{tagsOf, tags-obey, tags-answer, freshF
 
 report-three : (list : List ℕ) → take 3 list ≡ 0xe004010000000005 ∷ 0xe004010000000011 ∷ 0xe004010000000021 ∷ []
     → report (record { walk = threeEnd 256; list = list }) ≡ threePrinted
-unfolding report heading verdictLine word decimal digit hexDigits uidLines
+unfolding report heading verdictLine word decimal decimalOf digit hexDigits uidLines
 report-three list e = rw e refl
 
 report-played : (p : Play) → p .walk ≡ threeEnd 256 → listed (p .walk) (p .list) ≡ 0xe004010000000005 ∷ 0xe004010000000011 ∷ 0xe004010000000021 ∷ []

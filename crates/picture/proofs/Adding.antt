@@ -1,10 +1,10 @@
 -- A line's head, what a slot adds, and the twins' line, each put together of its pieces. By the pieces placed one after the other.
 -- Assumes nothing.
-use mathlib.Core.Path.{_≡_, sym, ap, subst, _∙_}
+use mathlib.Core.Path.{_≡_, ap, subst, _∙_}
 use mathlib.Core.Bool.{Bool, true, cond, not, _||_}
 use Prim.Native.Nat.{ℕ, _+_, _*_, _%_, _^_, _≤_, _<_}
 use native.Mathlib.Omega.{arith}
-use mathlib.Core.List.{List, [], _∷_, _++_, append-assoc}
+use mathlib.Core.List.{List, [], _∷_, _++_}
 use borrow.Author.Tests.{eq-eqb, ne-eqb}
 use lib.Dec.{eqb}
 use lib.ListN.{length}
@@ -16,6 +16,7 @@ use Rattle.walk.specs.Record.{maskLength, isRunning, isAccepted}
 use Rattle.walk.proofs.Limits.{Accepted, accepted-of-is-accepted, level-most}
 use Rattle.row.specs.declared.Air.{Air}
 use Rattle.row.specs.declared.Desk.{Desk}
+use Rattle.hex.specs.Digits.{hexDigits}
 use Rattle.picture.specs.Drawn.{sign, roundShown, tailShown, lineHead, slotDrawn, twinsLine}
 use Rattle.lent.proofs.Puts.{puts-none, puts-then}
 use Rattle.picture.proofs.Lengths.{sign-most}
@@ -25,16 +26,17 @@ use Rattle.picture.proofs.Lengths.{sign-most}
 pub head-none : (w : Walk) (at : ℕ) (e : List ℕ) → (w .slot ≡ 0 → ⊥) → PutsAt at (cond (eqb (w .slot) 0) (lineHead w) []) e at e
 head-none w at e h = rw (ne-eqb (w .slot) 0 h) (puts-none at e)
 
-pub head-puts : (w : Walk) {at m r : ℕ} {number tail e f g : List ℕ} → w .slot ≡ 0 → number ≡ roundShown (w .rounds) ++ 0x20 ∷ []
-    → tail ≡ tailShown (w .level) (w .mask) ++ 0x20 ∷ [] → PutsAt at number e m f → PutsAt m tail f r g → m + length tail ≤ length e
-    → PutsAt at (cond (eqb (w .slot) 0) (lineHead w) []) e r g
+pub head-puts : (w : Walk) {at m k r : ℕ} {number e f g h : List ℕ} → w .slot ≡ 0 → number ≡ roundShown (w .rounds) ++ 0x20 ∷ []
+    → PutsAt at number e m f → PutsAt m (tailShown (w .level) (w .mask)) f k g → PutsAt k (0x20 ∷ []) g r h → r ≤ length e
+    → PutsAt at (cond (eqb (w .slot) 0) (lineHead w) []) e r h
 unfolding lineHead
-head-puts w {at} {m} {r} {number} {tail} {e} {f} {g} h n t p q k =
+head-puts w {at} {m} {k} {r} {number} {e} {f} {g} {h} first n p q t room =
     let shown : List ℕ = roundShown (w .rounds) in
     let calls : List ℕ = tailShown (w .level) (w .mask) in
-    let whole : number ++ tail ≡ shown ++ 0x20 ∷ calls ++ 0x20 ∷ [] =
-    (λ i. n i ++ t i) ∙ sym (append-assoc (shown ++ 0x20 ∷ []) calls (0x20 ∷ [])) ∙ ap (λ (l : List ℕ). l ++ 0x20 ∷ []) (append-snoc shown 0x20 calls) in
-    rw (eq-eqb (w .slot) 0 h) (subst (λ (s : List ℕ). PutsAt at s e r g) whole (puts-then p q k))
+    let whole : number ++ calls ++ 0x20 ∷ [] ≡ shown ++ 0x20 ∷ calls ++ 0x20 ∷ [] =
+    ap (λ (l : List ℕ). l ++ calls ++ 0x20 ∷ []) n ∙ ap (λ (l : List ℕ). l ++ 0x20 ∷ []) (append-snoc shown 0x20 calls) in
+    let puts = puts-then (puts-then p q (omega (arith, q .next, t .next))) t (omega (arith, t .next)) in
+    rw (eq-eqb (w .slot) 0 first) (subst (λ (s : List ℕ). PutsAt at s e r h) whole puts)
 
 -- ---- a slot
 
@@ -65,13 +67,12 @@ pub twins-none : (d : Desk) (at : ℕ) (e : List ℕ) → (d .walk .ending ≡ 2
 unfolding twinsLine
 twins-none d at e h = rw (ne-eqb (d .walk .ending) 2 h) (puts-none at e)
 
-pub twins-puts : (d : Desk) {at m r : ℕ} {tail e f g : List ℕ} → isAccepted (d .walk) ≡ true → length (d .walk .marks) ≤ 16 → d .walk .ending ≡ 2
-    → tail ≡ tailShown 16 (d .walk .slot * 2 ^ 60 % 2 ^ 64 + d .walk .mask) ++ 0x0a ∷ []
-    → PutsAt at (0x74 ∷ 0x77 ∷ 0x69 ∷ 0x6e ∷ 0x73 ∷ 0x20 ∷ []) e m f → PutsAt m tail f r g → m + length tail ≤ length e
-    → PutsAt at (twinsLine d) e r g
-unfolding twinsLine
-twins-puts d {at} {m} {r} {tail} {e} {f} {g} accepted few h t p q k =
-    let uid : tail ≡ tailShown 16 (d .walk .slot * 2 ^ 60 + d .walk .mask) ++ 0x0a ∷ [] =
-    t ∙ ap (λ (n : ℕ). tailShown 16 (n + d .walk .mask) ++ 0x0a ∷ []) (digit-above (d .walk) accepted few .shifted) in
-    rw (eq-eqb (d .walk .ending) 2 h)
-    (subst (λ (l : List ℕ). PutsAt at (0x74 ∷ 0x77 ∷ 0x69 ∷ 0x6e ∷ 0x73 ∷ 0x20 ∷ l) e r g) uid (puts-then p q k))
+pub twins-puts : (d : Desk) {at m k r : ℕ} {e f g h : List ℕ} → isAccepted (d .walk) ≡ true → length (d .walk .marks) ≤ 16 → d .walk .ending ≡ 2
+    → PutsAt at (0x74 ∷ 0x77 ∷ 0x69 ∷ 0x6e ∷ 0x73 ∷ 0x20 ∷ []) e m f
+    → PutsAt m (hexDigits 16 (d .walk .slot * 2 ^ 60 % 2 ^ 64 + d .walk .mask)) f k g → PutsAt k (0x0a ∷ []) g r h → r ≤ length e
+    → PutsAt at (twinsLine d) e r h
+unfolding twinsLine tailShown
+twins-puts d {at} {m} {k} {r} {e} {f} {g} {h} accepted few twins p q t room =
+    let uid = rw (digit-above (d .walk) accepted few .shifted) at q in
+    rw (eq-eqb (d .walk .ending) 2 twins)
+    (puts-then (puts-then p uid (omega (arith, uid .next, t .next))) t (omega (arith, t .next)))

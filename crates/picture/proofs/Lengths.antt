@@ -5,36 +5,30 @@ use mathlib.Core.Bool.{Bool, true, false, cond}
 use Prim.Native.Nat.{ℕ, _+_, _*_, _^_, _≤_, _<_}
 use native.Mathlib.Omega.{arith}
 use mathlib.Core.List.{List, [], _∷_, _++_}
-use lib.Dec.{ltb, eqb}
+use lib.Dec.{eqb}
 use lib.ListN.{length, length-append, length-replicate}
 use Rattle.walk.specs.declared.Walk.{Walk}
+use Rattle.walk.proofs.Limits.{Accepted}
 use Rattle.row.specs.declared.Desk.{Desk}
-use Rattle.rack.specs.Output.{decimal}
+use Rattle.hex.specs.Decimal.{decimal}
+use Rattle.hex.proofs.Decimal.{length-decimal}
+use Rattle.rack.proofs.Lengths.{length-either}
 use Rattle.picture.specs.Drawn.{roundShown, tailShown, lineHead, twinsLine}
 use Rattle.picture.proofs.Pieces.{length-tail}
 
-pub length-either : (t : Bool) (x y : List ℕ) (n : ℕ) → length x ≤ n → length y ≤ n → length (cond t x y) ≤ n
-length-either true x y n h k = h
-length-either false x y n h k = k
-
-length-decimal : (n : ℕ) → length (decimal n) ≤ 3
-unfolding decimal
-length-decimal n =
-    length-either (ltb n 10) _ _ 3 (omega arith) (length-either (ltb n 100) _ _ 3 (omega arith) (omega arith))
-
-pub length-round : (n : ℕ) → length (roundShown n) ≡ 5
+pub length-round : (n : ℕ) → n < 1000 → length (roundShown n) ≡ 5
 unfolding roundShown
-length-round n = rw (length-append, length-replicate) (omega (arith, length-decimal n))
+length-round n h = rw (length-append, length-replicate) (omega (arith, length-decimal 2 n h))
 
-pub length-head : (w : Walk) → w .level < 16 → length (lineHead w) ≡ 23
+pub length-head : (w : Walk) → Accepted w → length (lineHead w) ≡ 23
 unfolding lineHead
-length-head w h =
+length-head w a =
     let digits : length (tailShown (w .level) (w .mask)) ≡ 16 = length-tail (w .level) (w .mask) (omega arith) in
-    rw (length-append, length-append, length-round, digits) refl
+    rw (length-append, length-append, length-round (w .rounds) (omega arith), digits) refl
 
 -- before slot 0
-pub head-most : (w : Walk) → w .level < 16 → length (cond (eqb (w .slot) 0) (lineHead w) []) ≤ 23
-head-most w h = length-either (eqb (w .slot) 0) (lineHead w) [] 23 (omega (arith, length-head w h)) (omega arith)
+pub head-most : (w : Walk) → Accepted w → length (cond (eqb (w .slot) 0) (lineHead w) []) ≤ 23
+head-most w a = length-either (eqb (w .slot) 0) (lineHead w) [] 23 (omega (arith, length-head w a)) (omega arith)
 
 pub sign-most : (a : ℕ) (ends : Bool) → length (a ∷ cond ends (0x0a ∷ []) []) ≤ 2
 sign-most a true = omega arith

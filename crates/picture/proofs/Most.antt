@@ -37,22 +37,22 @@ length-end : (b : Bool) → length (cond {A = List ℕ} b (0x0a ∷ []) []) ≡ 
 length-end true = refl
 length-end false = refl
 
-head-begun : (w : Walk) → w .level < 16 → length (cond (eqb (w .slot) 0) (lineHead w) []) + begun w ≡ 23 + w .slot
+head-begun : (w : Walk) → Accepted w → length (cond (eqb (w .slot) 0) (lineHead w) []) + begun w ≡ 23 + w .slot
 unfolding begun
-head-begun w h = go (eqb (w .slot) 0) refl
+head-begun w a = go (eqb (w .slot) 0) refl
   where
     go : (b : Bool) → eqb (w .slot) 0 ≡ b → length (cond b (lineHead w) []) + cond b 0 (23 + w .slot) ≡ 23 + w .slot
     go true e =
         let first : w .slot ≡ 0 = eqb-true (w .slot) 0 e in
-        omega (arith, length-head w h)
+        omega (arith, length-head w a)
     go false e = omega arith
 
-slot-begun : (w next : Walk) (air : Air) → w .level < 16
+slot-begun : (w next : Walk) (air : Air) → Accepted w
     → length (slotDrawn w air next) + begun w ≡ 24 + w .slot + cond (eqb (w .slot) 15 || not (isRunning next)) 1 0
 unfolding slotDrawn
-slot-begun w next air h =
+slot-begun w next air a =
     rw length-append
-    (omega (arith, head-begun w h, length-end (eqb (w .slot) 15 || not (isRunning next))))
+    (omega (arith, head-begun w a, length-end (eqb (w .slot) 15 || not (isRunning next))))
 
 -- ---- what is left to draw
 
@@ -87,7 +87,7 @@ slot-most : (w next : Walk) (air : Air) (rest : ℕ) → Within w → Within nex
 slot-most w next air rest a b moves ends later = go (isRunning next) refl moves
   where
     line : length (slotDrawn w air next) + begun w ≡ 24 + w .slot + cond (eqb (w .slot) 15 || not (isRunning next)) 1 0
-    line = slot-begun w next air (a .level)
+    line = slot-begun w next air a
 
     one : cond (eqb (w .slot) 15 || not (isRunning next)) 1 0 ≤ 1
     one = one-most (eqb (w .slot) 15 || not (isRunning next))

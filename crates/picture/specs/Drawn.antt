@@ -16,7 +16,7 @@ use Rattle.row.specs.Row.{Played, stillAir, rowAir, slotPlayed, cardsOf}
 use Rattle.row.specs.Play.{freshDesk, ended}
 use Rattle.lines.specs.Input.{badLine, uids}
 use Rattle.hex.specs.Digits.{hexDigits}
-use Rattle.rack.specs.Output.{decimal}
+use Rattle.hex.specs.Decimal.{decimal}
 use Rattle.rack.specs.Bench.{printed}
 
 -- no card answers, one does, two or more do: . o #

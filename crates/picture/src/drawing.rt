@@ -7,11 +7,11 @@ ghost use lib.Dec.{eqb};
 ghost use lib.ListN.{length, take};
 ghost use Rattle.lent.specs.Puts.{Puts, PutsAt};
 ghost use Rattle.walk.specs.Record.{isAccepted};
-ghost use Rattle.picture.specs.Drawn.{sign, lineHead, slotDrawn, twinsLine, drawn};
+ghost use Rattle.hex.specs.Digits.{hexDigits};
+ghost use Rattle.picture.specs.Drawn.{sign, tailShown, lineHead, slotDrawn, twinsLine, drawn};
 use crate::line::ends_line;
 use crate::line::round;
 use crate::line::sign;
-use crate::line::tail;
 use row::Air;
 use row::Desk;
 use row::play::deal;
@@ -20,17 +20,32 @@ use row::play::goes_on;
 use row::play::slot;
 use walk::Walk;
 
-// Puts bytes at a place of the buffer, and returns the place after them.
+// Puts bytes at a place that has room for them, and returns the place after them.
 fn put(bytes: &[u8], out: &mut [u8], at: usize) -> usize
     requires { ⌜ at + length (now bytes) ≤ length (now out) ⌝ }
     ensures { λ r. ⌜ PutsAt at (now (bytes .entry)) (now (out .entry)) r (now (out .exit)) ⌝ }
 {
-    let mut i = 0;
-    while i < bytes.len() {
-        out[at + i] = bytes[i];
-        i += 1;
-    }
-    at + i
+    hex::put_bytes(bytes, out, at) as usize
+}
+
+// So many digits.
+fn put_digits(n: u64, count: usize, out: &mut [u8], at: usize) -> usize
+    requires { ⌜ at + count ≤ length (now out) ⌝ }
+    ensures { λ r. ⌜ PutsAt at (hexDigits count n) (now (out .entry)) r (now (out .exit)) ⌝ }
+{
+    hex::put_digits(n, count, out, at) as usize
+}
+
+// A tail: the digits that are free, and those of the mask.
+fn put_tail(level: usize, mask: u64, out: &mut [u8], at: usize) -> usize
+    requires { ⌜ level ≤ 16 ⌝ }
+    requires { ⌜ at + 16 ≤ length (now out) ⌝ }
+    ensures { λ r. ⌜ PutsAt at (tailShown level mask) (now (out .entry)) r (now (out .exit)) ⌝ }
+{
+    let free = [b'-'; 16];
+    let count = 16 - level;
+    let place = put(&free[..count], out, at);
+    put_digits(mask, level, out, place)
 }
 
 // What a line begins with, before slot 0.
@@ -44,8 +59,8 @@ fn put_head(walk: Walk, out: &mut [u8], at: usize) -> usize
     }
     let number = round(walk.rounds as u64);
     let place = put(&number, out, at);
-    let tail = tail(walk.level as usize, walk.mask, b' ');
-    put(&tail, out, place)
+    let next = put_tail(walk.level as usize, walk.mask, out, place);
+    put(b" ", out, next)
 }
 
 // A sign, and the line's end where it ends.
@@ -82,8 +97,9 @@ fn put_twins(desk: Desk, out: &mut [u8], at: usize) -> usize
         return at;
     }
     let place = put(b"twins ", out, at);
-    let uid = tail(16, ((walk.slot as u64) << 60) + walk.mask, b'\n');
-    put(&uid, out, place)
+    let uid = ((walk.slot as u64) << 60) + walk.mask;
+    let next = put_digits(uid, 16, out, place);
+    put(b"\n", out, next)
 }
 
 // All that is drawn of a walk over the cards of the first n UIDs.

@@ -2,11 +2,10 @@
 ghost use mathlib.Core.Path.{_≡_};
 ghost use mathlib.Core.Bool.{not, _||_};
 ghost use mathlib.Core.List.{[], _∷_, _++_};
-ghost use Prim.Native.Nat.{_<_, _≤_};
+ghost use Prim.Native.Nat.{_<_};
 ghost use lib.Dec.{eqb};
-ghost use lib.ListN.{getD};
 ghost use Rattle.walk.specs.Record.{isRunning};
-ghost use Rattle.picture.specs.Drawn.{sign, roundShown, tailShown};
+ghost use Rattle.picture.specs.Drawn.{sign, roundShown};
 use hex::digit;
 use row::Air;
 use walk::Walk;
@@ -54,31 +53,4 @@ pub(crate) fn round(n: u64) -> [u8; 6]
         digit(n % 10),
         b' ',
     ]
-}
-
-// One place of a tail: a digit that is free, or one of the mask.
-fn tail_byte(level: usize, mask: u64, i: usize) -> u8
-    requires { ⌜ level ≤ 16 ⌝ }
-    requires { ⌜ i < 16 ⌝ }
-    ensures { λ r. ⌜ r ≡ getD (tailShown level mask) i 0 ⌝ }
-{
-    if i + level < 16 {
-        return b'-';
-    }
-    let shift = 60 - 4 * i;
-    digit(mask >> shift)
-}
-
-// A tail and the byte after it.
-pub(crate) fn tail(level: usize, mask: u64, end: u8) -> [u8; 17]
-    requires { ⌜ level ≤ 16 ⌝ }
-    ensures { λ r. ⌜ r ≡ tailShown level mask ++ end ∷ [] ⌝ }
-{
-    let mut bytes = [end; 17];
-    let mut i = 0;
-    while i < 16 {
-        bytes[i] = tail_byte(level, mask, i);
-        i += 1;
-    }
-    bytes
 }

@@ -1,21 +1,20 @@
--- Laws of a text that grows: what is added in two pieces is added in one, and one piece byte by byte. By the place where each piece goes.
+-- Laws of a text that grows: what is added in two pieces is added in one, and one piece by `put_bytes`. By the place where each piece goes.
 -- Assumes nothing.
-use mathlib.Core.Path.{_≡_, sym, ap, _∙_}
-use mathlib.Core.Bool.{true}
+use mathlib.Core.Path.{_≡_, refl, sym, ap, _∙_}
 use mathlib.Core.List.{List, [], _∷_, _++_}
 use Prim.Native.Nat.{ℕ, zero, suc, _+_, _-_, _*_, _≤_, _<_, min}
-use native.Mathlib.Numerals.{add-one}
 use native.Mathlib.Decide.{decLe}
 use native.Mathlib.Omega.{arith}
-use borrow.Author.Tests.{le-leb}
-use lib.Dec.{leb}
+use borrow.Author.Tests.{lt-leb}
 use lib.IntN.{ℤ}
-use lib.ListN.{length, take, getD, set, length-take, length-append}
-use lib.Seq.{take-suc, take-nil, length-take-le}
-use Rattle.lent.specs.Lent.{over, placed}
-use Rattle.lent.proofs.Over.{length-placed, placed-none, placed-placed, placed-start, set-placed, take-over}
-use Rattle.hex.specs.Rows.{rowText, putLeaves, PutsRow}
+use lib.ListN.{length, take, length-take, length-append}
+use lib.Seq.{take-nil, length-take-le}
+use Rattle.lent.specs.Lent.{placed}
+use Rattle.lent.proofs.Over.{length-placed, placed-none, placed-placed, placed-start, take-over}
+use Rattle.hex.specs.Rows.{rowText}
+use Rattle.hex.specs.Put.{putLeaves, PutsText}
 use Rattle.hex.proofs.Rows.{length-row-text}
+use Rattle.hex.proofs.Put.{put-leaves}
 use Rattle.player.specs.Text.{cut, Adds}
 
 take-append : (n : ℕ) (s v : List ℕ) → take n (s ++ v) ≡ take n s ++ take (n - length s) v
@@ -97,41 +96,40 @@ adds-none at e =
     let none : take {A = ℕ} (length e - at) [] ≡ [] = take-nil (length e - at) in
     record { next = rw none (omega arith); leaves = rw none (sym (placed-none at e)) }
 
--- ---- one piece, byte by byte
+-- ---- one piece
 
-pub copied-none : (at : ℕ) (s e : List ℕ) → e ≡ placed at (take 0 s) e
-copied-none at s e = sym (placed-none at e)
+-- as much of it as there is room for, put
+pub adds-put : (at : ℕ) (s e f : List ℕ) (room count : ℕ) {r : ℤ} → room ≡ min at (length e) → count ≡ min (length e - room) (length s)
+    → PutsText (take count s) e at r f → Adds at s e (at + count) f
+unfolding cut putLeaves
+adds-put at s e f room count {r} is-room is-count p = go (decLe at (length e))
+  where
+    piece : take count s ≡ take (length e - at) s
+    piece =
+        let same : length e - room ≡ length e - at = omega arith in
+        rw (is-count, same) (take-min (length e - at) s)
 
-pub copied-more : (at i : ℕ) (s e f : List ℕ) → f ≡ placed at (take i s) e → i < length s → at + i < length e
-    → set f (at + i) (getD s i 0) ≡ placed at (take (i + 1) s) e
-copied-more at i s e f is h k =
-    let all : length (take i s) ≡ i = length-take-le i s (omega arith) in
-    let place : at + length (take i s) ≡ at + i = ap (λ (n : ℕ). at + n) all in
-    rw is (ap (λ (n : ℕ). set (placed at (take i s) e) n (getD s i 0)) (sym place)
-    ∙ set-placed at (take i s) e (getD s i 0) (rw place k)
-    ∙ rw (add-one, take-suc s i 0 h))
+    long : length (take count s) ≡ count
+    long = length-take-le count s (omega arith)
 
-pub copied-all : (at : ℕ) (s e f : List ℕ) (room count : ℕ) → room ≡ min at (length e) → count ≡ min (length e - room) (length s)
-    → f ≡ placed at (take count s) e → Adds at s e (at + count) f
-unfolding cut
-copied-all at s e f room count is-room is-count is =
-    let same : length e - room ≡ length e - at = omega arith in
-    let piece : take count s ≡ take (length e - at) s = rw (is-count, same) (take-min (length e - at) s) in
-    record { next = omega (arith, length-take (length e - at) s); leaves = rw (is, piece) }
+    next : at + count ≡ at + length (take (length e - at) s)
+    next = rw (← piece, long)
+
+    go : Dec (at ≤ length e) → Adds at s e (at + count) f
+    go (yes h) = record { next = next; leaves = rw (put-leaves p (rw long (omega arith)), piece) }
+    go (no h) =
+        let none : length e - at ≡ 0 = omega arith in
+        let short : length e < at + length (take count s) = omega arith in
+        record { next = next; leaves = rw (none, placed-none) (p .leaves ∙ rw (lt-leb (at + length (take count s)) (length e) short) refl) }
 
 -- ---- a row that was put into a buffer of its own
 
-row-over : (bytes found left : List ℕ) {r : ℤ} → PutsRow bytes found 0 r left → 3 * length bytes ≤ length found → left ≡ over (rowText bytes) found
-unfolding putLeaves
-row-over bytes found left p h =
-    let room : leb (0 + 3 * length bytes) (length found) ≡ true = le-leb (0 + 3 * length bytes) (length found) (omega arith) in
-    rw room at (p .leaves) ∙ placed-start (rowText bytes) found
-
-pub row-taken : (bytes found left : List ℕ) {r : ℤ} → PutsRow bytes found 0 r left → 3 * length bytes ≤ length found
+pub row-taken : (bytes found left : List ℕ) {r : ℤ} → PutsText (rowText bytes) found 0 r left → 3 * length bytes ≤ length found
     → take (3 * length bytes) left ≡ rowText bytes
 row-taken bytes found left p h =
-    rw (row-over bytes found left p h, ← (length-row-text bytes)) (take-over (rowText bytes) found)
+    let long : length (rowText bytes) ≡ 3 * length bytes = length-row-text bytes in
+    rw (put-leaves p (omega arith), placed-start (rowText bytes) found, ← long) (take-over (rowText bytes) found)
 
-pub row-length : (bytes found left : List ℕ) {r : ℤ} → PutsRow bytes found 0 r left → 3 * length bytes ≤ length found
+pub row-length : (bytes found left : List ℕ) {r : ℤ} → PutsText (rowText bytes) found 0 r left → 3 * length bytes ≤ length found
     → 3 * length bytes ≡ length (take (3 * length bytes) left)
 row-length bytes found left p h = rw (row-taken bytes found left p h) (sym (length-row-text bytes))

@@ -23,11 +23,7 @@ fn put(bytes: &[u8], text: &mut [u8], at: usize) -> usize
     ensures { λ r. ⌜ Adds at (now (bytes .entry)) (now (text .entry)) r (now (text .exit)) ⌝ }
 {
     let count = least(text.len() - least(at, text.len()), bytes.len());
-    let mut i = 0;
-    while i < count {
-        text[at + i] = bytes[i];
-        i += 1;
-    }
+    hex::put_bytes(&bytes[..count], text, at);
     at + count
 }
 
@@ -190,10 +186,8 @@ pub(crate) fn tell_blocks(line: &[u8], size: usize, bytes: &[u8]) -> bool {
 
 // Tells the number of a line that can't be read.
 pub(crate) fn tell_bad_line(number: u64) {
-    let mut digits = [0u8; 20];
-    let n = io::decimal(number, &mut digits);
     let mut text = [0u8; 32];
     let at = put(b"bad line ", &mut text, 0);
-    let end = put(&digits[..n], &mut text, at);
+    let end = io::count(hex::put_decimal(number, &mut text, at) as isize, &text);
     write(&mut text, end);
 }

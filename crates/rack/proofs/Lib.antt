@@ -1,4 +1,4 @@
-mod Digits
+pub mod Lengths
 mod Printed
 mod BenchWays
 pub mod Start

@@ -1,22 +1,21 @@
 -- What is printed, put together: a name before a number, the heading, and the lines of a list with their lengths.
 -- By pieces one after another. Assumes nothing.
-use mathlib.Core.Path.{_≡_, refl, sym, ap, subst, _∙_}
+use mathlib.Core.Path.{_≡_, refl}
 use Prim.Native.Nat.{ℕ, _+_, _*_, _≤_, _<_}
 use native.Mathlib.Numerals.{add-one}
 use native.Mathlib.Omega.{arith}
 use mathlib.Core.List.{List, [], _∷_, _++_, append-assoc}
 use lib.ListN.{length, take, getD, set, length-append, length-take}
-use lib.Seq.{take-suc, length-take-le}
+use lib.Seq.{take-suc}
 use Rattle.lent.specs.Puts.{Puts, PutsAt}
 use Rattle.walk.specs.declared.Walk.{Walk}
 use Rattle.row.specs.declared.Desk.{Desk}
-use Rattle.rack.specs.declared.output.Piece.{Piece}
-use Rattle.rack.specs.Output.{decimal, uidLines, verdictLine, heading, report}
-use Rattle.rack.specs.Steps.{Spells}
+use Rattle.rack.specs.Output.{uidLines, verdictLine, heading, report}
 use Rattle.lent.proofs.Puts.{puts-none, puts-then, puts-more, puts-start}
 use Rattle.hex.specs.Digits.{hexDigits}
+use Rattle.hex.specs.Decimal.{decimal}
 use Rattle.hex.proofs.Digits.{length-hex-digits}
-use Rattle.rack.proofs.Digits.{length-decimal}
+use Rattle.hex.proofs.Decimal.{length-decimal}
 
 -- ---- the lines of a list
 
@@ -57,17 +56,10 @@ lines-most n list = rw (length-lines, length-take) (omega arith)
 
 -- ---- a name and a number
 
-pub spelled-length : (p : Piece) {s : List ℕ} → Spells s p → p .count ≡ length s
-spelled-length p h = sym (length-take-le (p .count) (p .bytes) (h .few)) ∙ ap length (h .first)
-
--- what a piece spells stands there
-pub puts-spelled : {at r : ℕ} {s e f : List ℕ} (p : Piece) → Spells s p → PutsAt at (take (p .count) (p .bytes)) e r f → PutsAt at s e r f
-puts-spelled {at} {r} {s} {e} {f} p h q = subst (λ (bs : List ℕ). PutsAt at bs e r f) (h .first) q
-
-pub named-end : {at m : ℕ} {e f : List ℕ} (name : List ℕ) (n : ℕ) → PutsAt at (name ++ decimal n) e m f → m ≤ at + length name + 3
-named-end name n p =
+pub named-end : {at m : ℕ} {e f : List ℕ} (name : List ℕ) (n : ℕ) → n < 1000 → PutsAt at (name ++ decimal n) e m f → m ≤ at + length name + 3
+named-end name n h p =
     let both : length (name ++ decimal n) ≡ length name + length (decimal n) = length-append name (decimal n) in
-    omega (arith, p .next, length-decimal n)
+    omega (arith, p .next, length-decimal 2 n h)
 
 -- ---- the heading and the whole
 

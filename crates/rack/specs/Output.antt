@@ -1,10 +1,11 @@
 -- 01, Bench: what is printed, byte for byte.
-use Prim.Native.Nat.{ℕ, _/_, _%_}
+use Prim.Native.Nat.{ℕ}
 use mathlib.Core.Bool.{cond}
 use mathlib.Core.List.{List, [], _∷_, _++_}
-use lib.Dec.{ltb, eqb}
+use lib.Dec.{eqb}
 use lib.ListN.{take}
-use Rattle.hex.specs.Digits.{digit, hexDigits}
+use Rattle.hex.specs.Digits.{hexDigits}
+use Rattle.hex.specs.Decimal.{decimal}
 use Rattle.walk.specs.declared.Walk.{Walk}
 use Rattle.walk.specs.Record.{complete, twins, full}
 use Rattle.row.specs.declared.Desk.{Desk}
@@ -16,12 +17,6 @@ word ending =
     (cond (eqb ending twins) (0x74 ∷ 0x77 ∷ 0x69 ∷ 0x6e ∷ 0x73 ∷ [])
     (cond (eqb ending full) (0x66 ∷ 0x75 ∷ 0x6c ∷ 0x6c ∷ [])
     (0x6f ∷ 0x76 ∷ 0x65 ∷ 0x72 ∷ 0x72 ∷ 0x75 ∷ 0x6e ∷ [])))
-
--- a number below 1000 in decimal
-unfoldable pub decimal : ℕ → List ℕ
-decimal n =
-    cond (ltb n 10) (digit n ∷ [])
-    (cond (ltb n 100) (digit (n / 10) ∷ digit (n % 10) ∷ []) (digit (n / 100) ∷ digit (n / 10 % 10) ∷ digit (n % 10) ∷ []))
 
 -- a UID a line
 unfoldable pub uidLines : List ℕ → List ℕ

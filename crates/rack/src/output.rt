@@ -7,92 +7,25 @@ ghost use lib.ListN.{length, take};
 ghost use Rattle.lent.specs.Puts.{Puts, PutsAt};
 ghost use Rattle.walk.specs.Record.{isAccepted};
 ghost use Rattle.hex.specs.Digits.{hexDigits};
-ghost use Rattle.rack.specs.Output.{word, decimal, uidLines, verdictLine, heading, report, complaint};
-ghost use Rattle.rack.specs.Steps.{Spells};
-use hex::digit;
+ghost use Rattle.hex.specs.Decimal.{decimal};
+ghost use Rattle.rack.specs.Output.{word, uidLines, verdictLine, heading, report, complaint};
 use row::Desk;
 use walk::Walk;
 
-// A few bytes that are printed: the first count of them.
-struct Piece {
-    bytes: [u8; 8],
-    count: usize,
-}
-
-// Puts bytes at a place of the buffer, and returns the place after them.
-fn put_bytes(bytes: &[u8], out: &mut [u8], at: usize) -> usize
+// Puts bytes at a place that has room for them, and returns the place after them.
+fn put(bytes: &[u8], out: &mut [u8], at: usize) -> usize
     requires { ⌜ at + length (now bytes) ≤ length (now out) ⌝ }
     ensures { λ r. ⌜ PutsAt at (now (bytes .entry)) (now (out .entry)) r (now (out .exit)) ⌝ }
 {
-    let mut i = 0;
-    while i < bytes.len() {
-        out[at + i] = bytes[i];
-        i += 1;
-    }
-    at + i
-}
-
-// The word for an ending.
-fn word(ending: u8) -> Piece
-    ensures { λ r. ⌜ Spells (word ending) r ⌝ }
-{
-    if ending == 1 {
-        return Piece {
-            bytes: [b'c', b'o', b'm', b'p', b'l', b'e', b't', b'e'],
-            count: 8,
-        };
-    }
-    if ending == 2 {
-        return Piece {
-            bytes: [b't', b'w', b'i', b'n', b's', 0, 0, 0],
-            count: 5,
-        };
-    }
-    if ending == 3 {
-        return Piece {
-            bytes: [b'f', b'u', b'l', b'l', 0, 0, 0, 0],
-            count: 4,
-        };
-    }
-    Piece {
-        bytes: [b'o', b'v', b'e', b'r', b'r', b'u', b'n', 0],
-        count: 7,
-    }
+    hex::put_bytes(bytes, out, at) as usize
 }
 
 // A number in decimal.
-fn decimal(n: u64) -> Piece
-    requires { ⌜ n < 1000 ⌝ }
-    ensures { λ r. ⌜ Spells (decimal n) r ⌝ }
+fn put_number(n: u64, out: &mut [u8], at: usize) -> usize
+    requires { ⌜ at + length (decimal n) ≤ length (now out) ⌝ }
+    ensures { λ r. ⌜ PutsAt at (decimal n) (now (out .entry)) r (now (out .exit)) ⌝ }
 {
-    let units = digit(n % 10);
-    let tens = digit(n / 10 % 10);
-    let hundreds = digit(n / 100);
-    if n < 10 {
-        return Piece {
-            bytes: [units, 0, 0, 0, 0, 0, 0, 0],
-            count: 1,
-        };
-    }
-    if n < 100 {
-        return Piece {
-            bytes: [tens, units, 0, 0, 0, 0, 0, 0],
-            count: 2,
-        };
-    }
-    Piece {
-        bytes: [hundreds, tens, units, 0, 0, 0, 0, 0],
-        count: 3,
-    }
-}
-
-fn put_piece(piece: Piece, out: &mut [u8], at: usize) -> usize
-    requires { ⌜ piece .count ≤ length (piece .bytes) ⌝ }
-    requires { ⌜ at + piece .count ≤ length (now out) ⌝ }
-    ensures { λ r. ⌜ PutsAt at (take (piece .count) (piece .bytes)) (now (out .entry)) r (now (out .exit)) ⌝ }
-{
-    let bytes = piece.bytes;
-    put_bytes(&bytes[..piece.count], out, at)
+    hex::put_decimal(n, out, at) as usize
 }
 
 // A UID, 16 hex digits.
@@ -100,13 +33,24 @@ fn put_uid(uid: u64, out: &mut [u8], at: usize) -> usize
     requires { ⌜ at + 16 ≤ length (now out) ⌝ }
     ensures { λ r. ⌜ PutsAt at (hexDigits 16 uid) (now (out .entry)) r (now (out .exit)) ⌝ }
 {
-    let mut i = 0;
-    while i < 16 {
-        let shift = 60 - 4 * i;
-        out[at + i] = digit(uid >> shift);
-        i += 1;
+    hex::put_digits(uid, 16, out, at) as usize
+}
+
+// The word for an ending.
+fn put_word(ending: u8, out: &mut [u8], at: usize) -> usize
+    requires { ⌜ at + 8 ≤ length (now out) ⌝ }
+    ensures { λ r. ⌜ PutsAt at (word ending) (now (out .entry)) r (now (out .exit)) ⌝ }
+{
+    if ending == 1 {
+        return put(b"complete", out, at);
     }
-    at + 16
+    if ending == 2 {
+        return put(b"twins", out, at);
+    }
+    if ending == 3 {
+        return put(b"full", out, at);
+    }
+    put(b"overrun", out, at)
 }
 
 // The first n UIDs of the list, a line each.
@@ -131,8 +75,8 @@ fn put_named(name: &[u8], n: u64, out: &mut [u8], at: usize) -> usize
     ensures { λ r. ⌜ PutsAt at (now (name .entry) ++ decimal n) (now (out .entry)) r (now (out .exit)) ⌝ }
     ensures { λ r. ⌜ r ≤ at + length (now (name .entry)) + 3 ⌝ }
 {
-    let next = put_bytes(name, out, at);
-    put_piece(decimal(n), out, next)
+    let next = put(name, out, at);
+    put_number(n, out, next)
 }
 
 // The verdict.
@@ -141,8 +85,8 @@ fn put_verdict(ending: u8, out: &mut [u8]) -> usize
     ensures { λ r. ⌜ PutsAt 0 (verdictLine ending) (now (out .entry)) r (now (out .exit)) ⌝ }
     ensures { λ r. ⌜ r ≤ 16 ⌝ }
 {
-    let next = put_bytes(b"verdict ", out, 0);
-    put_piece(word(ending), out, next)
+    let next = put(b"verdict ", out, 0);
+    put_word(ending, out, next)
 }
 
 // What is printed before the list.
@@ -167,7 +111,7 @@ pub(crate) fn put_report(desk: Desk, out: &mut [u8]) -> usize
     let walk = desk.walk;
     let list = desk.list;
     let mut at = put_heading(walk, out);
-    at = put_bytes(b"\n", out, at);
+    at = put(b"\n", out, at);
     put_list(list, walk.count as usize, out, at)
 }
 
@@ -179,5 +123,5 @@ pub(crate) fn put_complaint(n: usize, out: &mut [u8]) -> usize
     ensures { λ r. ⌜ r ≤ 1200 ⌝ }
 {
     let at = put_named(b"bad line ", n as u64, out, 0);
-    put_bytes(b"\n", out, at)
+    put(b"\n", out, at)
 }

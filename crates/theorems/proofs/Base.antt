@@ -17,13 +17,15 @@ use Rattle.crc.specs.Check.{checkOf, isSealed}
 use Rattle.frames.specs.Flags.{flagsOf}
 use Rattle.frames.specs.Field.{PutsField, fieldAt, fieldOf}
 use Rattle.frames.specs.Frame.{Seals, isSound}
-use Rattle.hex.specs.Digits.{digit, digitOf, hasForm, numberAt}
-use Rattle.hex.specs.Rows.{PutsRow, ReadsRow, isRow}
+use Rattle.hex.specs.Digits.{digit, digitOf, hasForm, hexDigits, numberAt}
+use Rattle.hex.specs.Decimal.{decimal}
+use Rattle.hex.specs.Rows.{ReadsRow, isRow, rowText}
+use Rattle.hex.specs.Put.{PutsText}
 use Rattle.slots.specs.Fits.{fitsMask, fitsSlot, maskBytes}
 use Rattle.tracks.specs.Coder.{Codes}
 use Rattle.tracks.specs.Decoder.{Decodes}
 use Rattle.frames.proofs.Unique.{put-field-unique, seal-unique}
-use Rattle.hex.proofs.Unique.{read-row-unique, put-row-unique}
+use Rattle.hex.proofs.Unique.{read-row-unique, put-text-unique}
 use Rattle.tracks.proofs.Unique.{code-unique, decode-unique}
 use Rattle.crc.proofs.check as crc-check
 use Rattle.crc.proofs.is_sealed as crc-is-sealed
@@ -41,6 +43,9 @@ use Rattle.hex.proofs.number as hex-number
 use Rattle.hex.proofs.is_row as hex-is-row
 use Rattle.hex.proofs.read_row as hex-read-row
 use Rattle.hex.proofs.put_row as hex-put-row
+use Rattle.hex.proofs.put_bytes as hex-put-bytes
+use Rattle.hex.proofs.put_digits as hex-put-digits
+use Rattle.hex.proofs.put_decimal as hex-put-decimal
 use Rattle.slots.proofs.low_bits as slots-low-bits
 use Rattle.slots.proofs.high_bits as slots-high-bits
 use Rattle.slots.proofs.is_below as slots-is-below
@@ -127,10 +132,28 @@ module _ {M : Type 1} (𝓤 : URA M) (H : Heap 𝓤) (A : Atoms 𝓤) (mem : Mem
       (λ κs a r s x y p q. let u : _ = read-row-unique p q in (u .0, λ i. (tt, (u .1 i, tt))))
 
   hex-put-row-contract : Contract 𝓤 H A hex-put-row.ended (hex-put-row.spec 𝓤 H A mem run) (hex-put-row.clauses 𝓤 H A mem run)
-      (λ κs a r e. PutsRow (now (a .0)) (now (a .1 .0)) (a .1 .1 .0) r (now (e .1 .0)))
+      (λ κs a r e. PutsText (rowText (now (a .0))) (now (a .1 .0)) (a .1 .1 .0) r (now (e .1 .0)))
   hex-put-row-contract =
       kept 𝓤 H A hex-put-row.ended _ _ _ refl (λ κs a. (tt, id⊢ 𝓤 _)) (λ κs a g r e. id⊢ 𝓤 _)
-      (λ κs a r s x y p q. let u : _ = put-row-unique p q in (u .0, λ i. (tt, (u .1 i, (tt, tt)))))
+      (λ κs a r s x y p q. let u : _ = put-text-unique p q in (u .0, λ i. (tt, (u .1 i, (tt, tt)))))
+
+  hex-put-bytes-contract : Contract 𝓤 H A hex-put-bytes.ended (hex-put-bytes.spec 𝓤 H A mem run) (hex-put-bytes.clauses 𝓤 H A mem run)
+      (λ κs a r e. PutsText (now (a .0)) (now (a .1 .0)) (a .1 .1 .0) r (now (e .1 .0)))
+  hex-put-bytes-contract =
+      kept 𝓤 H A hex-put-bytes.ended _ _ _ refl (λ κs a. (tt, id⊢ 𝓤 _)) (λ κs a g r e. id⊢ 𝓤 _)
+      (λ κs a r s x y p q. let u : _ = put-text-unique p q in (u .0, λ i. (tt, (u .1 i, (tt, tt)))))
+
+  hex-put-digits-contract : Contract 𝓤 H A hex-put-digits.ended (hex-put-digits.spec 𝓤 H A mem run) (hex-put-digits.clauses 𝓤 H A mem run)
+      (λ κs a r e. PutsText (hexDigits (a .1 .0) (a .0)) (now (a .1 .1 .0)) (a .1 .1 .1 .0) r (now (e .1 .1 .0)))
+  hex-put-digits-contract =
+      kept 𝓤 H A hex-put-digits.ended _ _ _ refl (λ κs a. (tt, id⊢ 𝓤 _)) (λ κs a g r e. id⊢ 𝓤 _)
+      (λ κs a r s x y p q. let u : _ = put-text-unique p q in (u .0, λ i. (tt, (tt, (u .1 i, (tt, tt))))))
+
+  hex-put-decimal-contract : Contract 𝓤 H A hex-put-decimal.ended (hex-put-decimal.spec 𝓤 H A mem run) (hex-put-decimal.clauses 𝓤 H A mem run)
+      (λ κs a r e. PutsText (decimal (a .0)) (now (a .1 .0)) (a .1 .1 .0) r (now (e .1 .0)))
+  hex-put-decimal-contract =
+      kept 𝓤 H A hex-put-decimal.ended _ _ _ refl (λ κs a. (tt, id⊢ 𝓤 _)) (λ κs a g r e. id⊢ 𝓤 _)
+      (λ κs a r s x y p q. let u : _ = put-text-unique p q in (u .0, λ i. (tt, (u .1 i, (tt, tt)))))
 
   -- ---- slots
 

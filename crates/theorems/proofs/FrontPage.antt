@@ -17,8 +17,10 @@ use Rattle.crc.proofs.Examples.{checks}
 use Rattle.frames.specs.Flags.{flagsOf, asksInventory}
 use Rattle.frames.specs.Frame.{shortest, longest, isSound, Sound}
 use Rattle.frames.proofs.Sound.{sound-of-sealed, sealed-of-sound}
+use Rattle.hex.specs.Decimal.{decimal, isDecimal, decimalValue}
 use Rattle.hex.specs.Rows.{isRow, rowBytes, rowText}
 use Rattle.hex.proofs.RoundTrip.{row-of-bytes, bytes-of-row, row-of-its-bytes}
+use Rattle.hex.proofs.DecimalRoundTrip.{decimal-of-number, number-of-decimal, decimal-front, decimal-of-its-number}
 use Rattle.slots.specs.Fits.{fitsSlot}
 use Rattle.tracks.specs.Track.{trackOf, slotMark}
 use Rattle.tracks.specs.Coder.{Codes}
@@ -291,6 +293,20 @@ a-row-is-read = bytes-of-row
 -- No other row does.
 one-row : (row : List ℕ) → isRow row ≡ true → rowText (rowBytes row) ≡ row
 one-row = row-of-its-bytes
+
+-- A number in decimal is written in digits, with no 0 (0x30) in front unless it is 0, and stands for the number.
+a-number-is-put : (n : ℕ) → isDecimal (decimal n) ≡ true
+a-number-is-put = decimal-of-number
+
+a-number-is-short : (n : ℕ) → 0 < n → 0x30 < getD (decimal n) 0 0
+a-number-is-short = decimal-front
+
+a-number-is-read : (n : ℕ) → decimalValue (decimal n) ≡ n
+a-number-is-read = number-of-decimal
+
+-- No other text does.
+one-number : (text : List ℕ) → isDecimal text ≡ true → 0x30 < getD text 0 0 → decimal (decimalValue text) ≡ text
+one-number = decimal-of-its-number
 
 -- ---- The examples of the rules page, under a single statement
 

@@ -4,13 +4,14 @@ use Prim.Native.Nat.{_+_, _*_}
 use mir.Syntax.{w64}
 use mir.ValLaws.{toZ-pos}
 use lib.ListN.{length}
-use Rattle.hex.proofs.Rows.{put-refused, put-served}
+use Rattle.hex.proofs.Rows.{length-row-text}
+use Rattle.hex.proofs.Put.{put-refused, put-served}
 use borrow.Author.Needs.{needs}
 use Rattle.hex.proofs.put_row.Statement.{statement}
 use Rattle.hex.proofs.put_row.Tie as tie
 
 returns : tie.Need-returns
-returns c = put-refused _ _ _ (omega arith)
+returns c = put-refused _ _ _ _ (length-row-text _) (omega arith)
 
 mul-n : tie.Need-mul-n
 mul-n c = search needs
@@ -19,7 +20,7 @@ sub-if2 : tie.Need-sub-if2
 sub-if2 c = search needs
 
 returns-2 : tie.Need-returns-2
-returns-2 c = put-refused _ _ _ (omega arith)
+returns-2 c = put-refused _ _ _ _ (length-row-text _) (omega arith)
 
 fill-requires : tie.Need-fill-requires
 fill-requires c κs = search needs
@@ -37,7 +38,7 @@ returns-3 : tie.Need-returns-3
 returns-3 c =
     let args = c .before .before .before .before .before .before .before .before .args in
     let next = toZ-pos w64 (args .at + 3 * length (args .bytes .now)) (omega arith) in
-    rw next (put-served _ _ _ _ (omega arith) (c .before .before .fill .ensures))
+    rw next (put-served _ _ _ _ _ (length-row-text _) (omega arith) (c .before .before .fill .ensures))
 
 pub put-row-spec : {M : Type 1} → statement M
 put-row-spec =

@@ -1,70 +1,21 @@
--- `picture::drawing::put` meets its contract. The loop's invariant: the first i bytes stand there. The measure is what is left of them.
--- Assumes nothing.
+-- `picture::drawing::put` meets its contract: by the promise of hex's `put_bytes` where there is room. Assumes nothing.
+use borrow.Author.Needs.{needs}
 use native.Mathlib.Omega.{arith}
-use mathlib.Core.Path.{_≡_, refl}
-use Prim.Native.Nat.{_+_, _-_, _≤_}
-use lib.ListN.{length, take, length-set}
-use lib.Seq.{take-all}
-use Rattle.lent.specs.Puts.{PutsAt}
-use Rattle.lent.proofs.Puts.{copied-none, copied-more}
+use Rattle.hex.proofs.Put.{put-cast, put-at}
 use Rattle.picture.proofs.drawing.put.Statement.{statement}
 use Rattle.picture.proofs.drawing.put.Tie as tie
 
-abbrev Inv-loop : tie.InvT-loop
-Inv-loop bytes out₀ at i₀ out i = (i ≤ length bytes) × (length out ≡ length out₀) × PutsAt at (take i bytes) out₀ (at + i) out
+put-bytes-requires : tie.Need-put-bytes-requires
+put-bytes-requires c κs = tt
 
-abbrev μ-loop : tie.MeasureT-loop
-μ-loop bytes out₀ at i₀ out i = length bytes - i
+cast-result : tie.Need-cast-result
+cast-result c = put-cast (c .before .before .put-bytes .ok) (c .before .before .put-bytes .ensures) (omega arith)
 
-loop-holds : tie.Need-loop-holds Inv-loop μ-loop
-loop-holds c = (omega arith, refl, copied-none _ (c .args .bytes .now) _)
+same-length : tie.Need-same-length
+same-length c = search needs
 
-shared-slice-read-out : tie.Need-shared-slice-read-out Inv-loop μ-loop
-shared-slice-read-out c = omega arith
-
-add-out : tie.Need-add-out Inv-loop μ-loop
-add-out c = omega arith
-
-slice-write-out : tie.Need-slice-write-out Inv-loop μ-loop
-slice-write-out c = omega arith
-
-add-i : tie.Need-add-i Inv-loop μ-loop
-add-i c = omega arith
-
-loop-less : tie.Need-loop-less Inv-loop μ-loop
-loop-less c = omega arith
-
-loop-again : tie.Need-loop-again Inv-loop μ-loop
-loop-again c =
-    let loop = c .before .before .loop in
-    let args = c .before .before .before .args in
-    (omega arith, simp length-set (loop .inv .1), copied-more (args .bytes .now) (loop .i) (loop .inv .2) (omega arith) (omega arith))
-
-add-result : tie.Need-add-result Inv-loop μ-loop
-add-result c = omega arith
-
-same-length : tie.Need-same-length Inv-loop μ-loop
-same-length c = omega arith
-
-returns : tie.Need-returns Inv-loop μ-loop
-returns c =
-    let loop = c .before .loop in
-    let args = c .before .before .args in
-    rw (← (take-all (loop .i) (args .bytes .now) (omega arith))) (loop .inv .2)
+returns : tie.Need-returns
+returns c = put-at (c .before .before .put-bytes .ok) (c .before .before .put-bytes .ensures) (omega arith)
 
 pub put-spec : {M : Type 1} → statement M
-put-spec =
-    tie.close
-    (tie.spec
-    Inv-loop
-    μ-loop
-    loop-holds
-    shared-slice-read-out
-    add-out
-    slice-write-out
-    add-i
-    loop-less
-    loop-again
-    add-result
-    same-length
-    returns)
+put-spec = tie.close (tie.spec put-bytes-requires cast-result same-length returns)

@@ -1,9 +1,10 @@
--- `picture::drawing::put_twins` meets its contract: nothing, or a word and a UID one after the other (Adding.antt). Assumes nothing.
+-- `picture::drawing::put_twins` meets its contract: nothing, or a word, a UID and the line's end one after the other (Adding.antt). Assumes nothing.
 use mathlib.Core.Path.{_≡_}
 use native.Mathlib.Omega.{arith}
 use borrow.Author.Needs.{needs}
 use lib.ListN.{length}
 use Rattle.walk.specs.Marks.{levels}
+use Rattle.hex.proofs.Digits.{length-hex-digits}
 use Rattle.picture.proofs.Adding.{digit-above, twins-none, twins-puts}
 use Rattle.picture.proofs.drawing.put_twins.Statement.{statement}
 use Rattle.picture.proofs.drawing.put_twins.Tie as tie
@@ -17,25 +18,25 @@ slice-aggregate-put c = search needs
 put-requires : tie.Need-put-requires
 put-requires c κs = search needs
 
-cast-tail : tie.Need-cast-tail
-cast-tail c = search needs
+cast-uid : tie.Need-cast-uid
+cast-uid c = search needs
 
-add-tail : tie.Need-add-tail
+add-uid : tie.Need-add-uid
 unfolding levels
-add-tail c =
+add-uid c =
     let start = c .before .before .before .before .before .before .before .before .before .before .before in
     let long : length (start .args .desk .walk .marks) ≡ levels = search (needs, start .good) in
     let above = digit-above (start .args .desk .walk) (start .pre .0) (omega (arith, long)) in
     rw (above .shifted) (omega (arith, above .fits))
 
-tail-requires : tie.Need-tail-requires
-tail-requires c κs = search needs
+put-digits-requires : tie.Need-put-digits-requires
+put-digits-requires c κs = search needs
 
 slice-aggregate-put-2 : tie.Need-slice-aggregate-put-2
 slice-aggregate-put-2 c = search needs
 
 put-requires-2 : tie.Need-put-requires-2
-put-requires-2 c κs = search needs
+put-requires-2 c κs = omega (arith, rw length-hex-digits at (c .before .before .before .before .put-digits .ensures .next), c .before .before .before .before .before .before .before .before .before .before .put .ensures .next, c .before .before .before .before .before .before .before .before .before .before .before .before .before .before .before .before .before .pre .1)
 
 same-length : tie.Need-same-length
 same-length c = search needs
@@ -43,13 +44,13 @@ same-length c = search needs
 returns-2 : tie.Need-returns-2
 unfolding levels
 returns-2 c =
-    let start = c .before .before .before .before .before .before .before .before .before .before .before .before .before .before .before .before .before in
-    let if1 = c .before .before .before .before .before .before .before .before .before .before .before .before .before .if1 in
+    let start = c .before .before .before .before .before .before .before .before .before .before .before .before .before .before .before .before .before .before .before .before in
     let long : length (start .args .desk .walk .marks) ≡ levels = search (needs, start .good) in
-    let put = c .before .before .before .before .before .before .before .before .before .before .put in
-    let tail = c .before .before .before .before .before .tail in
-    let put2 = c .before .before .put2 in
-    twins-puts _ (start .pre .0) (omega (arith, long)) (if1 .left) (tail .ensures) (put .ensures) (put2 .ensures) (omega (arith, put .ensures .next))
+    let put = c .before .before .before .before .before .before .before .before .before .before .before .before .before .put .ensures in
+    let digits = c .before .before .before .before .before .before .before .put-digits .ensures in
+    let line-end = c .before .before .put2 .ensures in
+    let places = rw length-hex-digits at (digits .next) in
+    twins-puts _ (start .pre .0) (omega (arith, long)) (omega arith) put digits line-end (omega (arith, put .next, line-end .next, start .pre .1))
 
 pub put-twins-spec : {M : Type 1} → statement M
 put-twins-spec =
@@ -58,9 +59,9 @@ put-twins-spec =
     returns
     slice-aggregate-put
     put-requires
-    cast-tail
-    add-tail
-    tail-requires
+    cast-uid
+    add-uid
+    put-digits-requires
     slice-aggregate-put-2
     put-requires-2
     same-length

@@ -29,7 +29,7 @@ digit-requires-6 : tie.Need-digit-requires-6
 digit-requires-6 c κs = tt
 
 returns-3 : tie.Need-returns-3
-returns-3 c = round-3 _ (omega arith) (c .before .before .digit4 .ensures) (c .before .digit5 .ensures) (c .digit6 .ensures)
+returns-3 c = round-3 _ (omega arith) (omega arith) (c .before .before .digit4 .ensures) (c .before .digit5 .ensures) (c .digit6 .ensures)
 
 pub round-spec : {M : Type 1} → statement M
 round-spec =

@@ -1,90 +1,50 @@
--- `player::told::put` meets its contract. The loop's invariant: the first i bytes stand there. The measure is how many are left to be put.
--- Assumes nothing.
+-- `player::told::put` meets its contract: as many bytes as there is room for, by the promise of hex's `put_bytes` (Adding.antt). Assumes nothing.
+use borrow.Author.Needs.{needs}
 use native.Mathlib.Omega.{arith}
-use mathlib.Core.Path.{_≡_, refl}
-use Prim.Native.Nat.{_-_, _≤_}
-use lib.ListN.{length, take, length-set}
-use Rattle.lent.specs.Lent.{placed}
-use Rattle.player.proofs.Adding.{copied-none, copied-more, copied-all}
+use mathlib.Core.Path.{sym}
+use lib.Seq.{length-take-le}
+use Rattle.player.proofs.Adding.{adds-put}
 use Rattle.player.proofs.told.put.Statement.{statement}
 use Rattle.player.proofs.told.put.Tie as tie
 
-abbrev Inv-loop : tie.InvT-loop
-Inv-loop bytes text₀ at count i₀ text i = (i ≤ count) × (length text ≡ length text₀) × (text ≡ placed at (take i bytes) text₀)
+least-requires : tie.Need-least-requires
+least-requires c κs = search needs
 
-abbrev μ-loop : tie.MeasureT-loop
-μ-loop bytes text₀ at count i₀ text i = count - i
+sub-least : tie.Need-sub-least
+sub-least c = search needs
 
-least-requires : tie.Need-least-requires Inv-loop μ-loop
-least-requires c κs = tt
+least-requires-2 : tie.Need-least-requires-2
+least-requires-2 c κs = search needs
 
-sub-least : tie.Need-sub-least Inv-loop μ-loop
-sub-least c = omega arith
+slice-aggregate-put-bytes : tie.Need-slice-aggregate-put-bytes
+slice-aggregate-put-bytes c = sym (length-take-le (c .before .least2 .result) (c .before .before .before .before .before .args .bytes .now) (omega arith))
 
-least-requires-2 : tie.Need-least-requires-2 Inv-loop μ-loop
-least-requires-2 c κs = tt
+put-bytes-requires : tie.Need-put-bytes-requires
+put-bytes-requires c κs = search needs
 
-loop-holds : tie.Need-loop-holds Inv-loop μ-loop
-loop-holds c =
-    let args = c .before .before .before .before .args in
-    (omega arith, refl, copied-none (args .at) (args .bytes .now) (args .text .now))
+add-result : tie.Need-add-result
+add-result c = search needs
 
-shared-slice-read-text : tie.Need-shared-slice-read-text Inv-loop μ-loop
-shared-slice-read-text c = omega arith
+same-length : tie.Need-same-length
+same-length c = search needs
 
-add-text : tie.Need-add-text Inv-loop μ-loop
-add-text c = omega arith
-
-slice-write-text : tie.Need-slice-write-text Inv-loop μ-loop
-slice-write-text c = omega arith
-
-add-i : tie.Need-add-i Inv-loop μ-loop
-add-i c = omega arith
-
-loop-less : tie.Need-loop-less Inv-loop μ-loop
-loop-less c = omega arith
-
-loop-again : tie.Need-loop-again Inv-loop μ-loop
-loop-again c =
-    let loop = c .before .before .loop in
-    let args = c .before .before .before .before .before .before .before .args in (
-      omega arith,
-      simp length-set (loop .inv .1),
-      copied-more (args .at) (loop .i) (args .bytes .now) (args .text .now) (loop .text) (loop .inv .2) (omega arith) (omega arith),
-    )
-
-add-result : tie.Need-add-result Inv-loop μ-loop
-add-result c = omega arith
-
-same-length : tie.Need-same-length Inv-loop μ-loop
-same-length c = omega arith
-
-returns : tie.Need-returns Inv-loop μ-loop
+returns : tie.Need-returns
 returns c =
-    let loop = c .before .loop in
-    let args = c .before .before .before .before .before .before .args in
-    let count = c .before .before .least2 in
-    let room = c .before .before .before .least in
-    let all : loop .i ≡ count .result = omega arith in
-    let stands = rw all at (loop .inv .2) in
-    copied-all (args .at) (args .bytes .now) (args .text .now) (loop .text) (room .result) (count .result) (omega arith) (omega arith) stands
+    let args = c .before .before .before .before .before .before .before .before .before .args in
+    let count = c .before .before .before .before .before .least2 in
+    let room = c .before .before .before .before .before .before .least in
+    adds-put (args .at) (args .bytes .now) (args .text .now) _ (room .result) (count .result) (omega arith) (omega arith)
+    (c .before .before .put-bytes .ensures)
 
 pub put-spec : {M : Type 1} → statement M
 put-spec =
     tie.close
     (tie.spec
-    Inv-loop
-    μ-loop
     least-requires
     sub-least
     least-requires-2
-    loop-holds
-    shared-slice-read-text
-    add-text
-    slice-write-text
-    add-i
-    loop-less
-    loop-again
+    slice-aggregate-put-bytes
+    put-bytes-requires
     add-result
     same-length
     returns)

@@ -12,11 +12,11 @@ slice-aggregate-put-named c = search needs
 put-named-requires : tie.Need-put-named-requires
 put-named-requires c κs = search needs
 
-slice-aggregate-put-bytes : tie.Need-slice-aggregate-put-bytes
-slice-aggregate-put-bytes c = search needs
+slice-aggregate-put : tie.Need-slice-aggregate-put
+slice-aggregate-put c = search needs
 
-put-bytes-requires : tie.Need-put-bytes-requires
-put-bytes-requires c κs = search needs
+put-requires : tie.Need-put-requires
+put-requires c κs = search needs
 
 same-length : tie.Need-same-length
 same-length c = search needs
@@ -25,7 +25,7 @@ returns : tie.Need-returns
 unfolding complaint
 returns c =
     let named = c .before .before .before .before .before .before .before .put-named .ensures in
-    let line-end = c .before .before .put-bytes .ensures in
+    let line-end = c .before .before .put .ensures in
     (puts-start (puts-then (named .0) line-end (omega arith)), omega (arith, named .1, line-end .next))
 
 pub put-complaint-spec : {M : Type 1} → statement M
@@ -34,7 +34,7 @@ put-complaint-spec =
     (tie.spec
     slice-aggregate-put-named
     put-named-requires
-    slice-aggregate-put-bytes
-    put-bytes-requires
+    slice-aggregate-put
+    put-requires
     same-length
     returns)

@@ -10,11 +10,11 @@ use Rattle.rack.proofs.output.put_report.Tie as tie
 put-heading-requires : tie.Need-put-heading-requires
 put-heading-requires c κs = search needs
 
-slice-aggregate-put-bytes : tie.Need-slice-aggregate-put-bytes
-slice-aggregate-put-bytes c = search needs
+slice-aggregate-put : tie.Need-slice-aggregate-put
+slice-aggregate-put c = search needs
 
-put-bytes-requires : tie.Need-put-bytes-requires
-put-bytes-requires c κs = search needs
+put-requires : tie.Need-put-requires
+put-requires c κs = search needs
 
 cast-put-list : tie.Need-cast-put-list
 cast-put-list c = search needs
@@ -32,7 +32,7 @@ returns c =
     let start = c .before .before .before .before .before .before .before .before .before .before .before .before .before .before .before .before .before in
     let desk = start .args .desk in
     let heading = c .before .before .before .before .before .before .before .before .before .before .before .before .put-heading .ensures in
-    let line-end = c .before .before .before .before .before .before .before .put-bytes .ensures in
+    let line-end = c .before .before .before .before .before .before .before .put .ensures in
     let list = c .before .before .put-list .ensures in
     let count = accepted-of-is-accepted _ (start .pre .0) .count in
     let few = lines-most (desk .walk .count) (desk .list) in
@@ -44,8 +44,8 @@ put-report-spec =
     tie.close
     (tie.spec
     put-heading-requires
-    slice-aggregate-put-bytes
-    put-bytes-requires
+    slice-aggregate-put
+    put-requires
     cast-put-list
     put-list-requires
     same-length
