@@ -36,9 +36,10 @@ put-tail-requires : tie.Need-put-tail-requires
 unfolding levels
 put-tail-requires c κs =
     let start = c .before .before .before .before .before .before .before .before .before .before .before .before in
-    let long : length (start .args .walk .marks) ≡ levels = search (needs, start .good) in
-    (omega (arith, level-most (accepted-of-is-accepted _ (start .pre .0)) (omega (arith, long))),
-    omega (arith, c .before .before .before .before .put .ensures .next, start .pre .1))
+    let long : length (start .args .walk .marks) ≡ levels = search (needs, start .good) in (
+      omega (arith, level-most (accepted-of-is-accepted _ (start .pre .0)) (omega (arith, long))),
+      omega (arith, c .before .before .before .before .put .ensures .next, start .pre .1),
+    )
 
 slice-aggregate-put-2 : tie.Need-slice-aggregate-put-2
 slice-aggregate-put-2 c = search needs
