@@ -51,7 +51,7 @@ anyLocked locks first (suc n) = anyLocked locks first n || isLocked locks (first
 unfoldable pub reads : Card → Bool → ℕ → ℕ → Deed
 reads c option first n = cond (ltb (first + n) (c .blocks)) (deed c Leave (Blocks first (n + 1) option)) (fault c 0x10)
 
--- 21: "write; locked is 12": n + 1 blocks, as they are read. place is where their data begin in the frame
+-- 21: "write; locked is 12". It is one of n + 1 blocks where n is 0; place is where their data begin in the frame
 unfoldable pub writes : Card → List ℕ → Bool → ℕ → ℕ → ℕ → Deed
 writes c locks option first n place =
     cond (ltb (first + n) (c .blocks))

@@ -21,19 +21,19 @@ add-result-3 c = omega (arith, c .before .width .ensures, width-most (c .before 
 
 returns : tie.Need-returns
 unfolding bodyAsked
-returns c = rw (c .before .width .ensures, c .match .keys1)
+returns c = rw (← (c .before .width .ensures), c .match .keys1)
 
 returns-2 : tie.Need-returns-2
 unfolding bodyAsked
-returns-2 c = rw (c .before .width .ensures, c .match .keys2)
+returns-2 c = rw (← (c .before .width .ensures), c .match .keys2)
 
 returns-3 : tie.Need-returns-3
 unfolding bodyAsked
-returns-3 c = rw (c .before .width .ensures, c .match .keys3)
+returns-3 c = rw (← (c .before .width .ensures), c .match .keys3)
 
 returns-4 : tie.Need-returns-4
 unfolding bodyAsked
-returns-4 c = rw (c .before .width .ensures, c .match .keys4)
+returns-4 c = rw (← (c .before .width .ensures), c .match .keys4)
 
 returns-5 : tie.Need-returns-5
 unfolding bodyAsked
@@ -45,7 +45,7 @@ returns-6 c = rw (c .match .keys6)
 
 returns-7 : tie.Need-returns-7
 unfolding bodyAsked
-returns-7 c = rw (c .before .width .ensures, c .match .keys7)
+returns-7 c = rw (← (c .before .width .ensures), c .match .keys7)
 
 returns-8 : tie.Need-returns-8
 unfolding bodyAsked
