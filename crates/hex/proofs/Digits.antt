@@ -9,9 +9,8 @@ use native.Mathlib.Numerals.{add-one}
 use native.Mathlib.Omega.{arith}
 use borrow.Author.Tests.{lt-ltb, le-ltb, le-leb, lt-leb, eq-eqb, ne-eqb}
 use lib.Dec.{eqb, ltb}
-use lib.ListN.{length, drop, getD, length-append, List·getD-append}
-use lib.Pow.{shr-shr}
-use lib.Seq.{getD-at, drop-cons, drop-length}
+use lib.ListN.{length, drop, getD, length-append}
+use lib.Seq.{drop-cons, drop-length}
 use Rattle.hex.specs.Digits.{digitOf, fits, hasForm, digitsAt, numberAt, digit, hexDigits}
 
 -- ---- a digit's value, and its byte
@@ -48,19 +47,6 @@ pub length-hex-digits : (n u : ℕ) → length (hexDigits n u) ≡ n
 unfolding hexDigits
 length-hex-digits zero u = refl
 length-hex-digits (suc n) u = rw (length-append, length-hex-digits n (u / 16)) (omega arith)
-
--- the digit at place j of n: k digits stand after it
-pub hex-digit-at : (n j k u : ℕ) → j + suc k ≡ n → getD (hexDigits n u) j 0 ≡ digit (u / 2 ^ (4 * k))
-unfolding hexDigits
-hex-digit-at zero j k u e = absurd (omega arith)
-hex-digit-at (suc n) j zero u e =
-    let all : u ≡ u / 1 = omega arith in
-    getD-at (hexDigits n (u / 16)) (digit u) [] 0 j (length-hex-digits n (u / 16) ∙ omega arith) ∙ ap digit all
-hex-digit-at (suc n) j (suc k) u e =
-    let inside : j < length (hexDigits n (u / 16)) = rw length-hex-digits (omega arith) in
-    let more : 4 + 4 * k ≡ 4 * suc k = omega arith in
-    List·getD-append (hexDigits n (u / 16)) (digit u ∷ []) 0 j inside ∙ hex-digit-at n j k (u / 16) (omega arith)
-    ∙ ap digit (shr-shr u 4 (4 * k) ∙ ap (λ (i : ℕ). u / 2 ^ i) more)
 
 -- ---- a form
 

@@ -5,11 +5,12 @@ use mathlib.Core.List.{List, [], _∷_, _++_}
 use lib.Dec.{ltb}
 use Rattle.hex.specs.Digits.{digitOf, digit}
 
--- the digits of a number, the highest first; there are fewer than one and a count that is no less than the number
+-- the digits of a number, the highest first; the count bounds how many, and a count that is no less than the number is enough
 unfoldable pub decimalOf : ℕ → ℕ → List ℕ
 decimalOf zero n = digit n ∷ []
 decimalOf (suc count) n = cond (ltb n 10) (digit n ∷ []) (decimalOf count (n / 10) ++ digit (n % 10) ∷ [])
 
+-- a number in decimal, without zeros in front
 unfoldable pub decimal : ℕ → List ℕ
 decimal n = decimalOf n n
 

@@ -8,7 +8,7 @@ use mathlib.Core.List.{List, [], _∷_, _++_}
 use lib.Dec.{eqb}
 use lib.ListN.{length, length-append, length-replicate}
 use Rattle.walk.specs.declared.Walk.{Walk}
-use Rattle.walk.proofs.Limits.{Accepted}
+use Rattle.walk.proofs.Limits.{Accepted, level-most, rounds-most}
 use Rattle.row.specs.declared.Desk.{Desk}
 use Rattle.hex.specs.Decimal.{decimal}
 use Rattle.hex.proofs.Decimal.{length-decimal}
@@ -20,15 +20,15 @@ pub length-round : (n : ℕ) → n < 1000 → length (roundShown n) ≡ 5
 unfolding roundShown
 length-round n h = rw (length-append, length-replicate) (omega (arith, length-decimal 2 n h))
 
-pub length-head : (w : Walk) → Accepted w → length (lineHead w) ≡ 23
+pub length-head : (w : Walk) → Accepted w → length (w .marks) ≤ 16 → length (lineHead w) ≡ 23
 unfolding lineHead
-length-head w a =
-    let digits : length (tailShown (w .level) (w .mask)) ≡ 16 = length-tail (w .level) (w .mask) (omega arith) in
-    rw (length-append, length-append, length-round (w .rounds) (omega arith), digits) refl
+length-head w a few =
+    let digits : length (tailShown (w .level) (w .mask)) ≡ 16 = length-tail (w .level) (w .mask) (omega (arith, level-most a few)) in
+    rw (length-append, length-append, length-round (w .rounds) (omega (arith, rounds-most a few)), digits) refl
 
 -- before slot 0
-pub head-most : (w : Walk) → Accepted w → length (cond (eqb (w .slot) 0) (lineHead w) []) ≤ 23
-head-most w a = length-either (eqb (w .slot) 0) (lineHead w) [] 23 (omega (arith, length-head w a)) (omega arith)
+pub head-most : (w : Walk) → Accepted w → length (w .marks) ≤ 16 → length (cond (eqb (w .slot) 0) (lineHead w) []) ≤ 23
+head-most w a few = length-either (eqb (w .slot) 0) (lineHead w) [] 23 (omega (arith, length-head w a few)) (omega arith)
 
 pub sign-most : (a : ℕ) (ends : Bool) → length (a ∷ cond ends (0x0a ∷ []) []) ≤ 2
 sign-most a true = omega arith
