@@ -20,15 +20,24 @@ pub length-round : (n : ℕ) → n < 1000 → length (roundShown n) ≡ 5
 unfolding roundShown
 length-round n h = rw (length-append, length-replicate) (omega (arith, length-decimal 2 n h))
 
-pub length-head : (w : Walk) → Accepted w → length (w .marks) ≤ 16 → length (lineHead w) ≡ 23
+-- the numbers of an accepted walk of sixteen levels at the most
+pub record Within (w : Walk) : Type 0 where
+  pub level : w .level < 16
+  pub slot : w .slot ≤ 15
+  pub rounds : w .rounds ≤ 481
+
+pub within-accepted : {w : Walk} → Accepted w → length (w .marks) ≤ 16 → Within w
+within-accepted a few = record { level = level-most a few; slot = a .slot; rounds = rounds-most a few }
+
+pub length-head : (w : Walk) → Within w → length (lineHead w) ≡ 23
 unfolding lineHead
-length-head w a few =
-    let digits : length (tailShown (w .level) (w .mask)) ≡ 16 = length-tail (w .level) (w .mask) (omega (arith, level-most a few)) in
-    rw (length-append, length-append, length-round (w .rounds) (omega (arith, rounds-most a few)), digits) refl
+length-head w a =
+    let digits : length (tailShown (w .level) (w .mask)) ≡ 16 = length-tail (w .level) (w .mask) (omega (arith, a .level)) in
+    rw (length-append, length-append, length-round (w .rounds) (omega (arith, a .rounds)), digits) refl
 
 -- before slot 0
-pub head-most : (w : Walk) → Accepted w → length (w .marks) ≤ 16 → length (cond (eqb (w .slot) 0) (lineHead w) []) ≤ 23
-head-most w a few = length-either (eqb (w .slot) 0) (lineHead w) [] 23 (omega (arith, length-head w a few)) (omega arith)
+pub head-most : (w : Walk) → Within w → length (cond (eqb (w .slot) 0) (lineHead w) []) ≤ 23
+head-most w a = length-either (eqb (w .slot) 0) (lineHead w) [] 23 (omega (arith, length-head w a)) (omega arith)
 
 pub sign-most : (a : ℕ) (ends : Bool) → length (a ∷ cond ends (0x0a ∷ []) []) ≤ 2
 sign-most a true = omega arith

@@ -11,13 +11,13 @@ use lib.ListN.{length, length-append}
 use Rattle.walk.specs.declared.Walk.{Walk}
 use Rattle.walk.specs.Marks.{levels}
 use Rattle.walk.specs.Record.{mostSlots, isRunning, startedOf, started}
-use Rattle.walk.proofs.Limits.{Accepted, accepted-of-is-accepted, level-most, rounds-most}
+use Rattle.walk.proofs.Limits.{accepted-of-is-accepted}
 use Rattle.row.specs.declared.Air.{Air}
 use Rattle.row.specs.declared.Desk.{Desk}
 use Rattle.row.specs.Row.{Played, stillAir, rowAir, deskAfter, slotPlayed, cardsOf}
 use Rattle.row.specs.Play.{freshDesk, ended}
 use Rattle.picture.specs.Drawn.{lineHead, slotDrawn, drawnFor, heading, drawn}
-use Rattle.picture.proofs.Lengths.{length-head, length-twins}
+use Rattle.picture.proofs.Lengths.{Within, within-accepted, length-head, length-twins}
 use Rattle.picture.proofs.Moves.{Moves, stops, steps, opens, Fit, fresh-fit, after-fit, desk-moves}
 
 -- the bytes of a line that has begun
@@ -37,7 +37,7 @@ length-end : (b : Bool) → length (cond {A = List ℕ} b (0x0a ∷ []) []) ≡ 
 length-end true = refl
 length-end false = refl
 
-head-begun : (w : Walk) → Accepted w → length (cond (eqb (w .slot) 0) (lineHead w) []) + begun w ≡ 23 + w .slot
+head-begun : (w : Walk) → Within w → length (cond (eqb (w .slot) 0) (lineHead w) []) + begun w ≡ 23 + w .slot
 unfolding begun
 head-begun w a = go (eqb (w .slot) 0) refl
   where
@@ -47,7 +47,7 @@ head-begun w a = go (eqb (w .slot) 0) refl
         omega (arith, length-head w a)
     go false e = omega arith
 
-slot-begun : (w next : Walk) (air : Air) → Accepted w
+slot-begun : (w next : Walk) (air : Air) → Within w
     → length (slotDrawn w air next) + begun w ≡ 24 + w .slot + cond (eqb (w .slot) 15 || not (isRunning next)) 1 0
 unfolding slotDrawn
 slot-begun w next air a =
@@ -70,16 +70,8 @@ one-most : (b : Bool) → cond b 1 0 ≤ 1
 one-most true = omega arith
 one-most false = omega arith
 
--- the numbers of a walk on a desk that fits
-record Within (w : Walk) : Type 0 where
-  level : w .level < 16
-  slot : w .slot ≤ 15
-  rounds : w .rounds ≤ 481
-
 within : (d : Desk) → Fit d → Within (d .walk)
-within d f =
-    let a : Accepted (d .walk) = accepted-of-is-accepted (d .walk) (f .accepted) in
-    record { level = level-most a (f .few); slot = a .slot; rounds = rounds-most a (f .few) }
+within d f = within-accepted (accepted-of-is-accepted (d .walk) (f .accepted)) (f .few)
 
 -- a slot, and the rest
 slot-most : (w next : Walk) (air : Air) (rest : ℕ) → Within w → Within next → Moves w next → (isRunning next ≡ false → rest ≡ 0)

@@ -45,24 +45,32 @@ slice-aggregate-put-2 : tie.Need-slice-aggregate-put-2
 slice-aggregate-put-2 c = search needs
 
 put-requires-2 : tie.Need-put-requires-2
+unfolding levels
 put-requires-2 c κs =
-    let walk = c .before .before .before .before .before .before .before .before .before .before .before .before .before .before .before .before .before .args .walk in
-    let pre = c .before .before .before .before .before .before .before .before .before .before .before .before .before .before .before .before .before .pre in
-    let long = length-tail (walk .level) (walk .mask) (omega (arith, accepted-of-is-accepted _ (pre .0) .level)) in
-    omega (arith, c .before .before .before .before .put-tail .ensures .next, c .before .before .before .before .before .before .before .before .before .put .ensures .next, pre .1)
+    let start = c .before .before .before .before .before .before .before .before .before .before .before .before .before .before .before .before .before in
+    let walk = start .args .walk in
+    let long : length (walk .marks) ≡ levels = search (needs, start .good) in
+    let level = level-most (accepted-of-is-accepted _ (start .pre .0)) (omega (arith, long)) in
+    let digits = length-tail (walk .level) (walk .mask) (omega (arith, level)) in
+    omega (arith, digits, c .before .before .before .before .put-tail .ensures .next, c .before .before .before .before .before .before .before .before .before .put .ensures .next, start .pre .1)
 
 same-length : tie.Need-same-length
 same-length c = search needs
 
 returns-2 : tie.Need-returns-2
+unfolding levels
 returns-2 c =
     let walk = c .before .before .before .before .before .before .before .before .before .before .before .before .before .before .before .before .before .before .before .before .args .walk in
     let pre = c .before .before .before .before .before .before .before .before .before .before .before .before .before .before .before .before .before .before .before .before .pre in
     let number = c .before .before .before .before .before .before .before .before .before .before .before .before .put .ensures in
     let tail = c .before .before .before .before .before .before .before .put-tail .ensures in
     let space = c .before .before .put2 .ensures in
-    let long = length-tail (walk .level) (walk .mask) (omega (arith, accepted-of-is-accepted _ (pre .0) .level)) in
-    head-puts walk (omega arith) (c .before .before .before .before .before .before .before .before .before .before .before .before .before .before .before .round .ensures) number tail space (omega (arith, number .next, tail .next, space .next, pre .1))
+    let digits = length-tail (walk .level) (walk .mask)
+    (let good = c .before .before .before .before .before .before .before .before .before .before .before .before .before .before .before .before .before .before .before .before .good in
+    let long : length (walk .marks) ≡ levels = search (needs, good) in
+    omega (arith, level-most (accepted-of-is-accepted _ (pre .0)) (omega (arith, long)))) in
+    head-puts walk (c .before .before .before .before .before .before .before .before .before .before .before .before .before .before .before .before .before .if1 .left) (c .before .before .before .before .before .before .before .before .before .before .before .before .before .before .before .round .ensures) number tail space
+    (omega (arith, number .next, tail .next, space .next, pre .1))
 
 pub put-head-spec : {M : Type 1} → statement M
 put-head-spec =

@@ -50,7 +50,7 @@ returns-2 c =
     let digits = c .before .before .before .before .before .before .before .put-digits .ensures in
     let line-end = c .before .before .put2 .ensures in
     let places = rw length-hex-digits at (digits .next) in
-    twins-puts _ (start .pre .0) (omega (arith, long)) (omega arith) put digits line-end (omega (arith, put .next, line-end .next, start .pre .1))
+    twins-puts _ (start .pre .0) (omega (arith, long)) (c .before .before .before .before .before .before .before .before .before .before .before .before .before .before .before .before .if1 .left) put digits line-end (omega (arith, put .next, line-end .next, start .pre .1))
 
 pub put-twins-spec : {M : Type 1} → statement M
 put-twins-spec =
