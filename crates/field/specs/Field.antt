@@ -11,8 +11,7 @@ use Rattle.card.specs.declared.Mode.the-variants.{Ready, Quiet, Selected}
 use Rattle.card.specs.declared.Reply.the-variants.{Silence}
 use Rattle.play.specs.Refusal.{refusal}
 use Rattle.play.specs.Events.{Outcome, replied, frameEvent, markEvent}
-pub use Rattle.play.specs.Life.{Tag}
-use Rattle.play.specs.Life.{tagAfter}
+use Rattle.play.specs.Life.{Tag, tagAfter}
 use Rattle.walk.specs.declared.Kind.{Kind}
 use Rattle.walk.specs.declared.Kind.the-variants as kinds
 use Rattle.walk.specs.declared.Send.{Send}

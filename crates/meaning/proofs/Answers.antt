@@ -12,7 +12,7 @@ use Rattle.card.specs.declared.Card.{Card}
 use Rattle.card.specs.declared.Turn.{Turn}
 use Rattle.card.specs.Inventory.{present}
 use Rattle.walk.specs.declared.Walk.{Walk}
-use Rattle.field.specs.Field.{Tag}
+use Rattle.play.specs.Life.{Tag}
 use Rattle.field.specs.Demand.{cards}
 use Rattle.field.proofs.Called.{slotOf}
 use Rattle.field.proofs.InTime.{inStep, calls, Both, none, more}

@@ -7,7 +7,8 @@ use mathlib.Core.List.{List, [], _∷_}
 use lib.ListN.{getD}
 use Rattle.card.specs.declared.Card.{Card}
 use Rattle.card.specs.Record.{shapeFits, sequenceFits, heldFits, isAccepted}
-use Rattle.field.specs.Field.{Tag, Obeys, listens, familyFits, answers, answering}
+use Rattle.play.specs.Life.{Tag}
+use Rattle.field.specs.Field.{Obeys, listens, familyFits, answers, answering}
 use Rattle.field.specs.Played.{Play, fresh}
 use Rattle.field.specs.Played as field
 use Rattle.field.specs.Found.{Found}

@@ -10,7 +10,8 @@ use lib.ListN.{length, getD}
 use Rattle.walk.specs.declared.Walk.{Walk}
 use Rattle.walk.specs.Marks.{levels}
 use Rattle.walk.specs.Record.{isAccepted, isRunning, started}
-use Rattle.field.specs.Field.{Tag, answering}
+use Rattle.play.specs.Life.{Tag}
+use Rattle.field.specs.Field.{answering}
 use Rattle.field.specs.Played.{Play, fresh}
 use Rattle.field.specs.Played as field
 use Rattle.field.specs.Demand.{AllObey, cards}

@@ -16,7 +16,8 @@ use Rattle.walk.specs.declared.Kind.the-variants as kind
 use Rattle.walk.specs.Record.{maskLength, isAccepted, isRunning}
 use Rattle.walk.specs.Hear.{judged}
 use Rattle.walk.proofs.Limits.{Accepted, accepted-of-is-accepted}
-use Rattle.field.specs.Field.{Tag, answers, answering, arrives}
+use Rattle.play.specs.Life.{Tag}
+use Rattle.field.specs.Field.{answers, answering, arrives}
 use Rattle.field.specs.Demand.{AllObey, cardLeft, cardsLeft, cards}
 use Rattle.field.proofs.Called.{called, slotOf}
 use Rattle.field.proofs.InTime.{inStep, calls, Both, none, more, Before}

@@ -11,7 +11,8 @@ use Rattle.walk.specs.declared.Walk.{Walk}
 use Rattle.walk.specs.Marks.{levels}
 use Rattle.walk.specs.Record.{isAccepted, isRunning}
 use Rattle.walk.proofs.Limits.{Accepted, accepted-of-is-accepted}
-use Rattle.field.specs.Field.{Tag, answering}
+use Rattle.play.specs.Life.{Tag}
+use Rattle.field.specs.Field.{answering}
 use Rattle.field.specs.Played.{Play}
 use Rattle.field.specs.Played as field
 use Rattle.field.specs.Demand.{AllObey, cards}

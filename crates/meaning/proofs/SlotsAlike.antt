@@ -16,7 +16,8 @@ use Rattle.walk.specs.Record.{isAccepted, isRunning}
 use Rattle.walk.specs.Hear.{judged, walkAfter, listAfter}
 use Rattle.walk.specs.Ask.{Asking}
 use Rattle.walk.proofs.HearWays.{walk-heard, ended-heard}
-use Rattle.field.specs.Field.{Tag, answering}
+use Rattle.play.specs.Life.{Tag}
+use Rattle.field.specs.Field.{answering}
 use Rattle.field.specs.Played.{Play}
 use Rattle.field.specs.Played as field
 use Rattle.field.specs.Demand.{AllObey, cards}
