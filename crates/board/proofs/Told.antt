@@ -10,7 +10,7 @@ use lib.Dec.{eqb}
 use lib.ListN.{length}
 use Rattle.card.specs.declared.Card.{Card}
 use Rattle.card.specs.declared.Reply.{Reply}
-use Rattle.requests.specs.Frame.{decided}
+use Rattle.commands.specs.Frame.{decided}
 use Rattle.card.specs.Mark.{marked}
 use Rattle.card.specs.Record.{poweredOff}
 use Rattle.card.specs.Reply.{replyLength}

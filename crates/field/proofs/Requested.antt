@@ -22,8 +22,8 @@ use Rattle.card.specs.Inventory.{turn, fitsFamily, present, inventoried}
 use Rattle.card.specs.Frame.{heardInventory}
 use Rattle.card.proofs.Heard.{cleared-mode, cleared-afi, cleared-uid, inventory-heard}
 use Rattle.slots.specs.Fits.{maskBytes, fitsSlot}
-use Rattle.requests.specs.Frame.{leaving, decided}
-use Rattle.requests.proofs.Rules.{inventory-frame}
+use Rattle.commands.specs.Frame.{leaving, decided}
+use Rattle.commands.proofs.Rules.{inventory-frame}
 use Rattle.walk.specs.declared.Walk.{Walk}
 use Rattle.walk.specs.Record.{maskLength, hasFamily}
 use Rattle.walk.specs.Ask.{requestHead, requestBody, request}

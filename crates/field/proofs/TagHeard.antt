@@ -8,13 +8,13 @@ use lib.ListN.{length}
 use Rattle.lent.specs.Lent.{over}
 use Rattle.lent.proofs.Over.{take-over}
 use Rattle.card.specs.declared.Card.{Card}
-use Rattle.requests.specs.declared.Deed.{Deed}
+use Rattle.commands.specs.declared.Deed.{Deed}
 use Rattle.card.specs.declared.Turn.{Turn}
 use Rattle.card.specs.Record.{cleared}
 use Rattle.card.specs.Inventory.{present}
 use Rattle.card.specs.Mark.{marked}
 use Rattle.card.proofs.Heard.{heard-cleared}
-use Rattle.requests.specs.Frame.{leaving}
+use Rattle.commands.specs.Frame.{leaving}
 use Rattle.play.specs.Refusal.{refusal}
 use Rattle.play.specs.Effects.{memoryAfter, locksAfter}
 use Rattle.play.specs.Events.{Outcome, replied, carriedOut, frameEvent, markEvent}

@@ -6,8 +6,8 @@ use borrow.Author.Tests.{eq-eqb}
 use Rattle.row.specs.Play.{ended}
 use Rattle.lines.specs.Input.{badLine, uids}
 use Rattle.lines.proofs.UidsFit.{input-uids-fit}
-use Rattle.rack.specs.Output.{report}
-use Rattle.rack.specs.Bench.{printed}
+use Rattle.report.specs.Output.{report}
+use Rattle.report.specs.Bench.{printed}
 use Rattle.meaning.specs.Bench.{Meaning, meaning}
 use Rattle.meaning.proofs.Bench.{bench-meets-demand3}
 

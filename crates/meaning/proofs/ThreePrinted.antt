@@ -19,8 +19,8 @@ use Rattle.lines.specs.Examples.{threeLines}
 use Rattle.lines.proofs.Examples.{ThreeRead, three-fit, three-read, three-read-ended}
 use Rattle.hex.specs.Digits.{digit, hexDigits}
 use Rattle.hex.specs.Decimal.{decimalOf, decimal}
-use Rattle.rack.specs.Output.{word, uidLines, verdictLine, heading, report}
-use Rattle.rack.specs.Bench.{printed}
+use Rattle.report.specs.Output.{word, uidLines, verdictLine, heading, report}
+use Rattle.report.specs.Bench.{printed}
 use Rattle.meaning.specs.Examples.{threePrinted, Bench}
 use Rattle.meaning.proofs.SlotsAlike.{benchOf}
 use Rattle.meaning.proofs.Bench.{tagsOf, tags-obey, tags-answer, freshField, bench-is-a-field}

@@ -3,7 +3,7 @@ use mathlib.Core.Path.{_≡_}
 use mathlib.Core.List.{List, [], _∷_, _++_}
 use Prim.Native.Nat.{ℕ}
 use Rattle.lines.specs.Examples.{threeLines}
-use Rattle.rack.specs.Bench.{printed}
+use Rattle.report.specs.Bench.{printed}
 use Rattle.picture.specs.Drawn.{pictured}
 
 -- "it prints, whole": verdict complete, rounds 2, cards 3, and the three UIDs

@@ -12,7 +12,7 @@ use Rattle.walk.proofs.Limits.{Accepted, level-most, rounds-most}
 use Rattle.row.specs.declared.Desk.{Desk}
 use Rattle.hex.specs.Decimal.{decimal}
 use Rattle.hex.proofs.Decimal.{length-decimal}
-use Rattle.rack.proofs.Lengths.{length-either}
+use Rattle.report.proofs.Lengths.{length-either}
 use Rattle.picture.specs.Drawn.{roundShown, tailShown, lineHead, twinsLine}
 use Rattle.picture.proofs.Pieces.{length-tail}
 

@@ -13,7 +13,7 @@ use mir.Syntax.{w64}
 use mir.Val.{SFits, toZ, ofZ}
 use mir.ValLaws.{toZ-pos, toZ-ofZ}
 use Rattle.lent.specs.Lent.{over, placed}
-use Rattle.rack.specs.Bench.{printed, mostPrinted, benchAnswer, benchLeaves, Prints}
+use Rattle.report.specs.Bench.{printed, mostPrinted, benchAnswer, benchLeaves, Prints}
 
 -- ---- the bytes
 

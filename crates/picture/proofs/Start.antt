@@ -9,7 +9,7 @@ use lib.ListN.{length, take}
 use lib.Seq.{take-all}
 use Rattle.lines.specs.Input.{badLine}
 use Rattle.lines.proofs.Start.{told-by-start}
-use Rattle.rack.proofs.Start.{printed-of-start}
+use Rattle.report.proofs.Start.{printed-of-start}
 use Rattle.picture.specs.Drawn.{pictured}
 
 pub pictured-of-start : (k : ℕ) (input : List ℕ) → 1701 ≤ k → pictured (take k input) ≡ pictured input

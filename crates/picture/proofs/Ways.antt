@@ -14,7 +14,7 @@ use Rattle.lines.specs.declared.Lines.{Lines}
 use Rattle.lines.specs.Input.{uids}
 use Rattle.lines.specs.Lines.{freshLines, readFrom}
 use Rattle.lines.proofs.Reading.{reads-of-read}
-use Rattle.rack.specs.Bench.{printed, mostPrinted, benchAnswer, benchLeaves, Prints}
+use Rattle.report.specs.Bench.{printed, mostPrinted, benchAnswer, benchLeaves, Prints}
 use Rattle.picture.specs.Drawn.{drawn, pictured, mostPictured, pictureAnswer, pictureLeaves, Pictures}
 
 pub pictures-short : (input room : List ℕ) → length room < 20503 → Pictures input room (refused 8) room

@@ -17,7 +17,7 @@ use Rattle.row.specs.Play.{freshDesk, ended}
 use Rattle.lines.specs.Input.{badLine, uids}
 use Rattle.hex.specs.Digits.{hexDigits}
 use Rattle.hex.specs.Decimal.{decimal}
-use Rattle.rack.specs.Bench.{printed}
+use Rattle.report.specs.Bench.{printed}
 
 -- no card answers, one does, two or more do: . o #
 unfoldable pub sign : Air → ℕ

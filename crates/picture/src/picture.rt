@@ -4,11 +4,11 @@ ghost use Prim.Native.Nat.{_+_, _≤_};
 ghost use lib.IntN.{pos};
 ghost use lib.ListN.{length};
 ghost use Rattle.lent.specs.Lent.{placed};
-ghost use Rattle.rack.specs.Bench.{printed};
+ghost use Rattle.report.specs.Bench.{printed};
 ghost use Rattle.picture.specs.Drawn.{Pictures};
 use crate::drawing::draw;
 use lines::read;
-use rack::bench::bench;
+use report::bench::bench;
 
 // Room for all that can be drawn and printed, and for what is printed.
 const MOST_PICTURED: usize = 20503;

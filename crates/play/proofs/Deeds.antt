@@ -9,16 +9,16 @@ use borrow.Author.Tests.{ltb-true, le-leb}
 use lib.Dec.{ltb}
 use lib.ListN.{length}
 use Rattle.card.specs.declared.Card.{Card}
-use Rattle.requests.specs.declared.Effect.{Effect}
-use Rattle.requests.specs.declared.Effect.the-variants.{Leave, Write, Lock}
-use Rattle.requests.specs.declared.Deed.{Deed}
+use Rattle.commands.specs.declared.Effect.{Effect}
+use Rattle.commands.specs.declared.Effect.the-variants.{Leave, Write, Lock}
+use Rattle.commands.specs.declared.Deed.{Deed}
 use Rattle.card.specs.Record.{remade, cleared}
 use Rattle.card.specs.Inventory.{inventoried}
-use Rattle.requests.specs.Frame.{decided}
-use Rattle.requests.specs.Request.{silent, fault, done, failed, isLocked, anyLocked, reads, writes, locks-block, tells-locks}
-use Rattle.requests.specs.Request.{writes-afi, writes-dsfid, locks-afi, locks-dsfid}
-use Rattle.requests.proofs.Forms.{Forms, by-test, decided-forms}
-use Rattle.requests.proofs.Keeps.{decided-keeps}
+use Rattle.commands.specs.Frame.{decided}
+use Rattle.commands.specs.Request.{silent, fault, done, failed, isLocked, anyLocked, reads, writes, locks-block, tells-locks}
+use Rattle.commands.specs.Request.{writes-afi, writes-dsfid, locks-afi, locks-dsfid}
+use Rattle.commands.proofs.Forms.{Forms, by-test, decided-forms}
+use Rattle.commands.proofs.Keeps.{decided-keeps}
 use Rattle.play.specs.Fits.{effectFits, replyFits, DeedFits}
 use Rattle.play.proofs.Kept.{self-kept, kept-changes}
 use Rattle.play.proofs.Brief.{brief-fits}

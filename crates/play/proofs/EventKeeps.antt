@@ -10,7 +10,7 @@ use lib.ListN.{length}
 use Rattle.card.specs.declared.Card.{Card}
 use Rattle.card.proofs.Changes.{Changes, off-keeps, marked-keeps}
 use Rattle.card.proofs.Accepted.{tests-of}
-use Rattle.requests.proofs.Keeps.{decided-keeps}
+use Rattle.commands.proofs.Keeps.{decided-keeps}
 use Rattle.play.specs.Refusal.{refusal, Accepted}
 use Rattle.play.specs.Fits.{Kept}
 use Rattle.play.specs.Events.{Outcome, replied, unserved, event, carriedOut, frameEvent, markEvent, offEvent}

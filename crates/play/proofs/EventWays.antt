@@ -15,13 +15,13 @@ use Rattle.crc.specs.Check.{sealed}
 use Rattle.card.specs.declared.Card.{Card}
 use Rattle.card.specs.declared.Reply.{Reply}
 use Rattle.card.specs.declared.Reply.the-variants.{Silence}
-use Rattle.requests.specs.declared.Deed.{Deed}
+use Rattle.commands.specs.declared.Deed.{Deed}
 use Rattle.card.specs.declared.Turn.{Turn}
 use Rattle.card.specs.Record.{poweredOff}
 use Rattle.card.specs.Mark.{marked}
-use Rattle.requests.specs.declared.Effect.the-variants.{Leave}
-use Rattle.requests.specs.Request.{deed}
-use Rattle.requests.specs.Frame.{decided}
+use Rattle.commands.specs.declared.Effect.the-variants.{Leave}
+use Rattle.commands.specs.Request.{deed}
+use Rattle.commands.specs.Frame.{decided}
 use Rattle.play.proofs.Brief.{brief-bytes}
 use Rattle.play.proofs.Room.{silence-length}
 use Rattle.play.specs.declared.Served.{Served}

@@ -14,10 +14,10 @@ use Rattle.frames.proofs.Sound.{sound-of-short}
 use Rattle.card.specs.declared.Card.{Card}
 use Rattle.card.specs.declared.Reply.{Reply}
 use Rattle.card.specs.declared.Reply.the-variants.{Error, Blocks, Information}
-use Rattle.requests.specs.declared.Effect.the-variants.{Leave}
+use Rattle.commands.specs.declared.Effect.the-variants.{Leave}
 use Rattle.card.specs.Record.{remade, cleared}
-use Rattle.requests.specs.Frame.{decided}
-use Rattle.requests.specs.Request.{deed, fault, reads, width, commanded, isListed, bodyAsked, refusesOption, bodyLength, judged, sorted, unaddressed, requested}
+use Rattle.commands.specs.Frame.{decided}
+use Rattle.commands.specs.Request.{deed, fault, reads, width, commanded, isListed, bodyAsked, refusesOption, bodyLength, judged, sorted, unaddressed, requested}
 use Rattle.play.specs.Answer.{blockOf, blockRead, blocksRead, information, replyBytes}
 use Rattle.play.specs.Events.{replied, frameEvent}
 use Rattle.play.specs.Examples.{Listens, speech}

@@ -21,10 +21,10 @@ use Rattle.card.specs.declared.Sequence.the-variants.{Running}
 use Rattle.card.specs.Record.{isQuiet, remade, cleared, inSequence}
 use Rattle.card.specs.Inventory.{lengthPlace, maskLimit, maskOf, totalLength, takesPart, present, joins, isInventory, inventoried}
 use Rattle.card.specs.Frame.{heardInventory}
-use Rattle.requests.specs.declared.Effect.the-variants.{Leave}
-use Rattle.requests.specs.Frame.{decided}
-use Rattle.requests.specs.Request.{deed, silent}
-use Rattle.requests.proofs.Rules.{inventory-frame}
+use Rattle.commands.specs.declared.Effect.the-variants.{Leave}
+use Rattle.commands.specs.Frame.{decided}
+use Rattle.commands.specs.Request.{deed, silent}
+use Rattle.commands.proofs.Rules.{inventory-frame}
 use Rattle.play.specs.Answer.{presence, replyBytes}
 use Rattle.play.specs.Effects.{memoryAfter, locksAfter}
 use Rattle.play.specs.Events.{lengthTold, answered, Outcome, replied, event, carriedOut, frameEvent}

@@ -15,7 +15,7 @@ use Rattle.card.specs.declared.Reply.the-variants.{Silence, Error, Done, Presen
 use Rattle.card.specs.Record.{shapeFits}
 use Rattle.card.specs.Reply.{replyLength}
 use Rattle.card.proofs.Accepted.{Shape, shape-of}
-use Rattle.requests.specs.declared.Deed.{Deed}
+use Rattle.commands.specs.declared.Deed.{Deed}
 use Rattle.play.specs.Refusal.{roomAsked}
 use Rattle.play.specs.Answer.{replyBytes}
 use Rattle.play.specs.Effects.{memoryAfter, locksAfter}

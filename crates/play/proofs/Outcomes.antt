@@ -8,7 +8,7 @@ use lib.ListN.{length}
 use Rattle.frames.specs.Frame.{isSound}
 use Rattle.card.specs.declared.Card.{Card}
 use Rattle.card.specs.Record.{cleared}
-use Rattle.requests.proofs.Rules.{unsound-silent}
+use Rattle.commands.proofs.Rules.{unsound-silent}
 use Rattle.play.specs.Effects.{memoryAfter, locksAfter}
 use Rattle.play.specs.Answer.{replyBytes}
 use Rattle.play.specs.Refusal.{refusal, Accepted}

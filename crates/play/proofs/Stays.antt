@@ -18,11 +18,11 @@ use Rattle.card.specs.Record.{isAccepted, poweredOff}
 use Rattle.card.specs.Mark.{marked}
 use Rattle.card.proofs.Changes.{off-keeps, marked-keeps}
 use Rattle.card.proofs.Accepted.{tests-of, accepted-changes, marked-accepted, off-accepted}
-use Rattle.requests.specs.declared.Deed.{Deed}
-use Rattle.requests.specs.declared.Effect.{Effect}
-use Rattle.requests.specs.declared.Effect.the-variants.{Leave, Write, Lock}
-use Rattle.requests.specs.Frame.{decided}
-use Rattle.requests.proofs.Keeps.{decided-keeps}
+use Rattle.commands.specs.declared.Deed.{Deed}
+use Rattle.commands.specs.declared.Effect.{Effect}
+use Rattle.commands.specs.declared.Effect.the-variants.{Leave, Write, Lock}
+use Rattle.commands.specs.Frame.{decided}
+use Rattle.commands.proofs.Keeps.{decided-keeps}
 use Rattle.play.specs.Refusal.{lengthsFit, locksFit, roomAsked, roomFits, refusal, Accepted}
 use Rattle.play.specs.Effects.{memoryAfter, locksAfter}
 use Rattle.play.specs.Answer.{replyBytes}

@@ -8,8 +8,8 @@ use borrow.Author.Tests.{leb-true, ltb-true}
 use lib.Dec.{leb}
 use lib.ListN.{length}
 use Rattle.card.specs.declared.Card.{Card}
-use Rattle.requests.specs.declared.Effect.{Effect}
-use Rattle.requests.specs.declared.Effect.the-variants.{Write, Lock}
+use Rattle.commands.specs.declared.Effect.{Effect}
+use Rattle.commands.specs.declared.Effect.the-variants.{Write, Lock}
 use Rattle.card.specs.declared.Reply.{Reply}
 use Rattle.card.specs.declared.Reply.the-variants.{Blocks, Status}
 use Rattle.play.specs.Fits.{effectFits, replyFits}

@@ -4,8 +4,8 @@ use mathlib.Core.List.{List}
 use lib.ListN.{take, drop, set}
 use Rattle.lent.specs.Lent.{placed}
 use Rattle.card.specs.declared.Card.{Card}
-use Rattle.requests.specs.declared.Effect.{Effect}
-use Rattle.requests.specs.declared.Effect.the-variants.{Leave, Write, Lock}
+use Rattle.commands.specs.declared.Effect.{Effect}
+use Rattle.commands.specs.declared.Effect.the-variants.{Leave, Write, Lock}
 
 -- 21: "write", so many blocks from the first on, one after another; their data stand in the frame from a place on, for each as many bytes as
 -- a block has

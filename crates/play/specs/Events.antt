@@ -8,12 +8,12 @@ use lib.ListN.{length}
 use Rattle.lent.specs.Lent.{over}
 use Rattle.crc.specs.Check.{sealed}
 use Rattle.card.specs.declared.Card.{Card}
-use Rattle.requests.specs.declared.Deed.{Deed}
+use Rattle.commands.specs.declared.Deed.{Deed}
 use Rattle.card.specs.declared.Reply.{Reply}
 use Rattle.card.specs.declared.Reply.the-variants.{Silence}
 use Rattle.card.specs.Record.{poweredOff}
 use Rattle.card.specs.Mark.{marked}
-use Rattle.requests.specs.Frame.{decided}
+use Rattle.commands.specs.Frame.{decided}
 use Rattle.play.specs.declared.Served.{Served}
 use Rattle.play.specs.Refusal.{refusal, Accepted}
 use Rattle.play.specs.Answer.{replyBytes}

@@ -6,9 +6,9 @@ use mathlib.Core.Path.{_≡_}
 use lib.Dec.{leb, ltb}
 use lib.ListN.{length}
 use Rattle.card.specs.declared.Card.{Card}
-use Rattle.requests.specs.declared.Deed.{Deed}
-use Rattle.requests.specs.declared.Effect.{Effect}
-use Rattle.requests.specs.declared.Effect.the-variants.{Leave, Write, Lock}
+use Rattle.commands.specs.declared.Deed.{Deed}
+use Rattle.commands.specs.declared.Effect.{Effect}
+use Rattle.commands.specs.declared.Effect.the-variants.{Leave, Write, Lock}
 use Rattle.card.specs.declared.Reply.{Reply}
 use Rattle.card.specs.declared.Reply.the-variants.{Silence, Error, Done, Present, Blocks, Status, Information}
 

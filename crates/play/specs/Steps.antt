@@ -12,7 +12,7 @@ use Rattle.card.specs.declared.Card.{Card}
 use Rattle.card.specs.declared.Reply.{Reply}
 use Rattle.card.specs.declared.Reply.the-variants.{Silence, Error, Done, Present, Blocks, Status, Information}
 use Rattle.card.specs.Record.{shapeFits}
-use Rattle.requests.specs.declared.Deed.{Deed}
+use Rattle.commands.specs.declared.Deed.{Deed}
 use Rattle.play.specs.Refusal.{roomFits}
 use Rattle.play.specs.Fits.{effectFits, replyFits}
 

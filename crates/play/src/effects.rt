@@ -7,7 +7,7 @@ ghost use Rattle.lent.specs.Lent.{placed};
 ghost use Rattle.play.specs.Fits.{effectFits};
 ghost use Rattle.play.specs.Effects.{blocksStored, memoryAfter, locksAfter};
 use card::Card;
-use requests::Effect;
+use commands::Effect;
 
 // Copies n bytes from a place of one buffer to a place of another.
 pub(crate) fn copy(from: &[u8], at: usize, n: usize, to: &mut [u8], place: usize)

@@ -9,7 +9,7 @@ use crate::answer::put_reply;
 use crate::effects::take_effect;
 use crate::refusal::refusal;
 use card::Card;
-use requests::Deed;
+use commands::Deed;
 
 // The check put behind n bytes of an answer, and its length; nothing for silence.
 fn finish(n: usize, answer: &mut [u8]) -> usize
@@ -64,7 +64,7 @@ pub fn frame(
             length: 0,
         };
     }
-    let deed = requests::decide(card, locks, frame);
+    let deed = commands::decide(card, locks, frame);
     carry_out(deed, frame, memory, locks, answer)
 }
 

@@ -13,7 +13,7 @@ use Rattle.card.specs.Frame.{heardInventory}
 use Rattle.card.specs.Mark.{marked}
 use Rattle.card.specs.Record.{cleared, holding, inMode, isAccepted, poweredOff, withAfi, withDsfid}
 use Rattle.record.specs.Record.{Writes, cardRead}
-use Rattle.requests.specs.Frame.{decided}
+use Rattle.commands.specs.Frame.{decided}
 use Rattle.play.specs.Events.{Leaves, frameEvent, markEvent, offEvent}
 use Rattle.record.proofs.Unique.{write-unique}
 use Rattle.play.proofs.Unique.{leaves-unique}
@@ -28,7 +28,7 @@ use Rattle.card.proofs.Card.with_dsfid as card-with-dsfid
 use Rattle.card.proofs.Card.power_off as card-power-off
 use Rattle.record.proofs.read as record-read
 use Rattle.record.proofs.write as record-write
-use Rattle.requests.proofs.decide as requests-decide
+use Rattle.commands.proofs.decide as commands-decide
 use Rattle.play.proofs.events.frame as play-frame
 use Rattle.play.proofs.events.mark as play-mark
 use Rattle.play.proofs.events.power_off as play-power-off
@@ -89,11 +89,11 @@ module _ {M : Type 1} (𝓤 : URA M) (H : Heap 𝓤) (A : Atoms 𝓤) (mem : Mem
       kept 𝓤 H A record-write.ended _ _ _ refl (λ κs a. (tt, id⊢ 𝓤 _)) (λ κs a g r e. id⊢ 𝓤 _)
       (λ κs a r s x y p q. let u : _ = write-unique _ _ r s _ _ p q in (u .0, λ i. (tt, (u .1 i, tt))))
 
-  -- ---- requests
+  -- ---- commands
 
-  requests-decide-contract : Contract 𝓤 H A requests-decide.ended (requests-decide.spec 𝓤 H A mem run) (requests-decide.clauses 𝓤 H A mem run)
+  commands-decide-contract : Contract 𝓤 H A commands-decide.ended (commands-decide.spec 𝓤 H A mem run) (commands-decide.clauses 𝓤 H A mem run)
       (λ κs a r e. r ≡ decided (a .0) (now (a .1 .0)) (now (a .1 .1 .0)))
-  requests-decide-contract = kept 𝓤 H A requests-decide.ended _ _ _ refl (λ κs a. (tt, id⊢ 𝓤 _)) (λ κs a g r e. id⊢ 𝓤 _) (λ κs a r s x y p q. (p ∙ sym q, refl))
+  commands-decide-contract = kept 𝓤 H A commands-decide.ended _ _ _ refl (λ κs a. (tt, id⊢ 𝓤 _)) (λ κs a g r e. id⊢ 𝓤 _) (λ κs a r s x y p q. (p ∙ sym q, refl))
 
   -- ---- play
 

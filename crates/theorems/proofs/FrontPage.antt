@@ -35,8 +35,8 @@ use Rattle.card.specs.Frame.{heardInventory}
 use Rattle.record.specs.Fits.{Fits}
 use Rattle.record.specs.Record.{cardRead, writeLeaves}
 use Rattle.record.proofs.RoundTrip.{read-of-write}
-use Rattle.requests.specs.Frame.{leaving, decided}
-use Rattle.requests.proofs.Rules.{inventory-frame}
+use Rattle.commands.specs.Frame.{leaving, decided}
+use Rattle.commands.proofs.Rules.{inventory-frame}
 use Rattle.play.specs.Refusal.{refusal, Accepted}
 use Rattle.play.specs.Fits.{DeedFits}
 use Rattle.play.specs.Events.{Outcome, unserved, frameEvent, markEvent, offEvent, AcceptedNext}
@@ -74,9 +74,9 @@ use Rattle.lines.specs.Input.{badLine, uids}
 use Rattle.lines.specs.Lines.{freshLines, readFrom}
 use Rattle.lines.specs.Lines as reading
 use Rattle.lines.proofs.Reading.{reads-input}
-use Rattle.rack.specs.Output.{report}
-use Rattle.rack.specs.Bench.{printed}
-use Rattle.rack.proofs.Start.{printed-of-start}
+use Rattle.report.specs.Output.{report}
+use Rattle.report.specs.Bench.{printed}
+use Rattle.report.proofs.Start.{printed-of-start}
 use Rattle.picture.specs.Drawn.{pictured}
 use Rattle.picture.proofs.Start.{pictured-of-start}
 use Rattle.meaning.specs.Bench.{Meaning, meaning}

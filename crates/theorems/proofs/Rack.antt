@@ -16,11 +16,11 @@ use Rattle.walk.specs.Record.{isAccepted, started}
 use Rattle.row.specs.Play.{ended, freshDesk, goesOn, slotted}
 use Rattle.row.specs.Row.{HearsRow, cardsOf, deskAfter}
 use Rattle.lines.specs.Lines.{freshLines, readFrom}
-use Rattle.rack.specs.Bench.{Prints}
+use Rattle.report.specs.Bench.{Prints}
 use Rattle.picture.specs.Drawn.{Pictures}
 use Rattle.walk.proofs.Unique.{ask-unique, hear-unique}
 use Rattle.row.proofs.Unique.{listen-row-unique}
-use Rattle.rack.proofs.Unique.{prints-unique}
+use Rattle.report.proofs.Unique.{prints-unique}
 use Rattle.picture.proofs.Unique.{pictures-unique}
 use Rattle.walk.proofs.Walk.ask as walk-ask
 use Rattle.walk.proofs.Walk.hear as walk-hear
@@ -34,7 +34,7 @@ use Rattle.row.proofs.play.goes_on as row-goes-on
 use Rattle.row.proofs.play.play as row-play
 use Rattle.row.proofs.row.listen_row as row-listen-row
 use Rattle.lines.proofs.read as lines-read
-use Rattle.rack.proofs.bench.bench as rack-bench
+use Rattle.report.proofs.bench.bench as report-bench
 use Rattle.picture.proofs.picture.picture as picture-picture
 use Rattle.theorems.specs.Contract.{Contract}
 use Rattle.theorems.proofs.Kept.{kept}
@@ -101,12 +101,12 @@ module _ {M : Type 1} (𝓤 : URA M) (H : Heap 𝓤) (A : Atoms 𝓤) (mem : Mem
       (λ κs a r e. r ≡ readFrom freshLines (now (a .0)))
   lines-read-contract = kept 𝓤 H A lines-read.ended _ _ _ refl (λ κs a. (tt, id⊢ 𝓤 _)) (λ κs a g r e. id⊢ 𝓤 _) (λ κs a r s x y p q. (p ∙ sym q, refl))
 
-  -- ---- rack
+  -- ---- report
 
-  rack-bench-contract : Contract 𝓤 H A rack-bench.ended (rack-bench.spec 𝓤 H A mem run) (rack-bench.clauses 𝓤 H A mem run)
+  report-bench-contract : Contract 𝓤 H A report-bench.ended (report-bench.spec 𝓤 H A mem run) (report-bench.clauses 𝓤 H A mem run)
       (λ κs a r e. Prints (now (a .0)) (now (a .1 .0)) r (now (e .1 .0)))
-  rack-bench-contract =
-      kept 𝓤 H A rack-bench.ended _ _ _ refl (λ κs a. (tt, id⊢ 𝓤 _)) (λ κs a g r e. id⊢ 𝓤 _)
+  report-bench-contract =
+      kept 𝓤 H A report-bench.ended _ _ _ refl (λ κs a. (tt, id⊢ 𝓤 _)) (λ κs a g r e. id⊢ 𝓤 _)
       (λ κs a r s x y p q. let u : _ = prints-unique _ _ r s _ _ p q in (u .0, λ i. (tt, (u .1 i, tt))))
 
   -- ---- picture
