@@ -18,9 +18,9 @@ replyLength c (Error code) = 4
 replyLength c Done = 3
 -- step 3: "Answer: 00, DSFID, UID, check."
 replyLength c Present = 12
--- 23: "n+1 blocks, each as 20"
+-- 23: "n+1 blocks, each as 20", so many
 replyLength c (Blocks first n option) = 3 + n * (c .size + lead option)
--- 2C: "n+1 lock bytes"
+-- 2C: "n+1 lock bytes", so many
 replyLength c (Status first n) = 3 + n
 -- 2B: "0F, UID, DSFID, AFI, blocks less 1, block size less 1, IC reference"
 replyLength c Information = 17

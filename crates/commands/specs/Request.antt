@@ -51,7 +51,7 @@ anyLocked locks first (suc n) = anyLocked locks first n || isLocked locks (first
 unfoldable pub reads : Card → Bool → ℕ → ℕ → Deed
 reads c option first n = cond (ltb (first + n) (c .blocks)) (deed c Leave (Blocks first (n + 1) option)) (fault c 0x10)
 
--- 21: "write; locked is 12". It is one of n + 1 blocks where n is 0; place is where their data begin in the frame
+-- 21: "write; locked is 12": n + 1 blocks from the first on, and 21 has n = 0. place is where their data begin in the frame
 unfoldable pub writes : Card → List ℕ → Bool → ℕ → ℕ → ℕ → Deed
 writes c locks option first n place =
     cond (ltb (first + n) (c .blocks))
@@ -112,7 +112,7 @@ unfoldable pub isListed : ℕ → Bool
 isListed command = leb 0x20 command && (leb command 0x2c && not (eqb command 0x24))
 
 -- "wrong body length 02": the table's column of bodies: "block", "block, data", "first, n", "byte" and "none"; data has the size of a block.
--- A body may tell its own length, so the frame and the body's place are there to be looked at
+-- It is asked of a frame and a place: of the body that stands there
 unfoldable pub bodyAsked : List ℕ → ℕ → ℕ → ℕ → ℕ
 bodyAsked frame at command size =
     let w : ℕ = width command in

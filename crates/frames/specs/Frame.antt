@@ -1,5 +1,5 @@
 -- 01, The card, step 1: "Under 4 bytes, over 64, or wrong check: silence."; Check and byte order: the check "stands last".
-use Prim.Native.Nat.{ℕ, _+_, _-_, _≤_}
+use Prim.Native.Nat.{ℕ, _+_, _-_, _*_, _≤_}
 use mathlib.Core.Bool.{Bool, cond, _&&_}
 use mathlib.Core.List.{List}
 use mathlib.Core.Path.{_≡_}
@@ -23,7 +23,7 @@ shortestAnswer = 3
 
 -- the longest answer: "3 + blocks × (size + 1)", of "1 to 256 blocks of 1 to 32 bytes"
 unfoldable pub longestAnswer : ℕ
-longestAnswer = 8451
+longestAnswer = 3 + 256 * (32 + 1)
 
 unfoldable pub isSound : List ℕ → Bool
 isSound frame = leb shortest (length frame) && (leb (length frame) longest && isSealed frame)

@@ -1,5 +1,5 @@
--- Both ways: a number in decimal has digits alone, with no zero in front, and stands for the number; and it is the only text that does. By induction
--- over the digits. Assumes nothing.
+-- Both ways: a number in decimal has digits alone, with no 0 in front unless it is 0, and stands for the number; and it is the only such text that does.
+-- By induction over the digits. Assumes nothing.
 use mathlib.Core.Path.{_≡_, refl, sym, ap, _∙_}
 use mathlib.Core.Bool.{Bool, true, false, _&&_, and-eq-true-iff}
 use mathlib.Core.List.{List, [], _∷_, _++_, append-nil}
@@ -75,6 +75,10 @@ decimal-of-number n = reads-of n n (omega arith) .digits
 pub number-of-decimal : (n : ℕ) → decimalValue (decimal n) ≡ n
 unfolding decimal decimalValue
 number-of-decimal n = reads-of n n (omega arith) .value
+
+pub decimal-zero : decimal 0 ≡ 0x30 ∷ []
+unfolding decimal decimalOf digit
+decimal-zero = refl
 
 pub decimal-front : (n : ℕ) → 0 < n → 0x30 < getD (decimal n) 0 0
 unfolding decimal

@@ -3,7 +3,7 @@
 -- meets its promise, never leaves what it was lent, and always returns, is what the gate's last line says of the crates themselves.
 use mathlib.Core.Path.{_≡_}
 use mathlib.Core.Bool.{true, false, _&&_}
-use mathlib.Core.List.{List}
+use mathlib.Core.List.{List, [], _∷_, _++_}
 use Prim.Native.Nat.{ℕ, suc, _+_, _-_, _*_, _%_, _^_, _≤_, _<_}
 use lib.Dec.{eqb}
 use lib.IntN.{ℤ, pos}
@@ -20,7 +20,7 @@ use Rattle.frames.proofs.Sound.{sound-of-sealed, sealed-of-sound}
 use Rattle.hex.specs.Decimal.{decimal, isDecimal, decimalValue}
 use Rattle.hex.specs.Rows.{isRow, rowBytes, rowText}
 use Rattle.hex.proofs.RoundTrip.{row-of-bytes, bytes-of-row, row-of-its-bytes}
-use Rattle.hex.proofs.DecimalRoundTrip.{decimal-of-number, number-of-decimal, decimal-front, decimal-of-its-number}
+use Rattle.hex.proofs.DecimalRoundTrip.{decimal-of-number, number-of-decimal, decimal-zero, decimal-front, decimal-of-its-number}
 use Rattle.slots.specs.Fits.{fitsSlot}
 use Rattle.tracks.specs.Track.{trackOf, slotMark}
 use Rattle.tracks.specs.Coder.{Codes}
@@ -40,30 +40,32 @@ use Rattle.commands.proofs.Rules.{inventory-frame}
 use Rattle.play.specs.Refusal.{refusal, Accepted}
 use Rattle.play.specs.Fits.{DeedFits}
 use Rattle.play.specs.Events.{Outcome, unserved, frameEvent, markEvent, offEvent, AcceptedNext}
-use Rattle.play.specs.Life.{Tag, AcceptedTag, Event, lived}
+use Rattle.play.specs.Life.{Tag, AcceptedTag, Event, met, tagAfter, lived}
 use Rattle.play.specs.Examples.{CardExamples}
 use Rattle.play.proofs.Deeds.{decided-fits}
 use Rattle.play.proofs.Outcomes.{frame-refused, mark-refused, off-refused, frame-damaged}
 use Rattle.play.proofs.Stays.{frame-stays, mark-stays, off-stays}
-use Rattle.play.proofs.Life.{lived-stays}
+use Rattle.play.proofs.Life.{lived-stays, lived-one, lived-append}
 use Rattle.play.proofs.Examples.{card-examples}
 use Rattle.board.specs.Calls.{frameCall, markCall, offCall}
 use Rattle.board.proofs.ReadBack.{frame-reads-back, mark-reads-back, off-reads-back, frame-leaves-bytes, mark-leaves-bytes, off-leaves-bytes}
 use Rattle.walk.specs.declared.Walk.{Walk}
 use Rattle.walk.specs.declared.Kind.{Kind}
 use Rattle.walk.specs.declared.Slot.the-variants.{Clean}
-use Rattle.walk.specs.Record.{maskLength, started, isRunning}
+use Rattle.walk.specs.Record.{maskLength, started, isRunning, complete}
 use Rattle.walk.specs.Hear.{judged}
 use Rattle.walk.specs.Examples.{Walks}
 use Rattle.walk.proofs.Examples.{walks}
 use Rattle.field.specs.Field.{Arrival, Obeys, answers, answering}
 use Rattle.field.specs.Played.{playedFor, fresh}
+use Rattle.field.specs.Found.{Found}
 use Rattle.field.specs.Answering.{isHeard, heardOnce}
 use Rattle.field.specs.Replies.{heardAll, Holds, anyReplies}
 use Rattle.field.specs.Demand.{AllObey, Demand3, demand3, roundsCounted, roundsKept}
 use Rattle.field.specs.Examples.{FieldOfThree}
 use Rattle.field.proofs.AnyWalk.{judged-fits, walk-of-any-replies}
-use Rattle.field.proofs.Demand3.{walk-of-a-field}
+use Rattle.tails.specs.Tails.{sharedTails}
+use Rattle.field.proofs.Demand3.{walk-of-a-field, found-rounds}
 use Rattle.field.proofs.Rounds.{rounds-of-a-field, rounds-after-a-field}
 use Rattle.field.proofs.Answering.{card-heard-once}
 use Rattle.field.proofs.Examples.{field-of-three}
@@ -152,9 +154,15 @@ served-after-a-mark = mark-stays
 served-after-power-off : (c : Card) (memory locks found : List ℕ) → Accepted c memory locks found → AcceptedNext (offEvent c memory locks found)
 served-after-power-off = off-stays
 
--- So it is through any list of events, in any order.
+-- So it is through any list of events, in any order. Such a list is lived event by event: one leaves what that event leaves, and the rest begins there.
 served-through-a-life : (events : List Event) (t : Tag) → AcceptedTag t → AcceptedTag (lived events t)
 served-through-a-life = lived-stays
+
+a-life-of-one-event : (e : Event) (t : Tag) → lived (e ∷ []) t ≡ tagAfter (met e t)
+a-life-of-one-event = lived-one
+
+a-life-in-parts : (events later : List Event) (t : Tag) → lived (events ++ later) t ≡ lived later (lived events t)
+a-life-in-parts = lived-append
 
 -- What an inventory frame does to a card is what it does to the record alone.
 an-inventory-frame : (c : Card) (locks frame : List ℕ) → asksInventory (flagsOf (getD frame 0 0)) ≡ true
@@ -223,6 +231,10 @@ demand-three : (family : ℕ) (tags : List Tag) (list room : List ℕ) → AllOb
     → Demand3 family tags (answering family tags) (playedFor (16 * 481) (fresh family list room tags))
 unfolding demand3
 demand-three = walk-of-a-field
+
+-- What it says of the rounds, in demand 3's words: one more than the tails of 1 to 15 digits that two or more share.
+rounds-and-tails : (us : List ℕ) (w : Walk) (list : List ℕ) → Found us w list → w .ending ≡ complete → w .rounds ≡ 1 + sharedTails us
+rounds-and-tails = found-rounds
 
 -- The round count is the count of rounds: after n slots a walk that still runs is in the round and in the slot that n gives.
 counting-rounds : (family : ℕ) (tags : List Tag) (list room : List ℕ) → AllObey tags → 64 ≤ length list → 14 ≤ length room → (n : ℕ)
@@ -301,10 +313,13 @@ a-number-is-put = decimal-of-number
 a-number-is-short : (n : ℕ) → 0 < n → 0x30 < getD (decimal n) 0 0
 a-number-is-short = decimal-front
 
+zero-is-put : decimal 0 ≡ 0x30 ∷ []
+zero-is-put = decimal-zero
+
 a-number-is-read : (n : ℕ) → decimalValue (decimal n) ≡ n
 a-number-is-read = number-of-decimal
 
--- No other text does.
+-- No other text of digits does that has no 0 in front.
 one-number : (text : List ℕ) → isDecimal text ≡ true → 0x30 < getD text 0 0 → decimal (decimalValue text) ≡ text
 one-number = decimal-of-its-number
 

@@ -3,7 +3,7 @@
 use mathlib.Core.Path.{_≡_, refl, ap, _∙_}
 use mathlib.Core.Bool.{true, _&&_}
 use mathlib.Core.List.{List, []}
-use Prim.Native.Nat.{ℕ, zero, suc, _+_, _*_, _^_, _≤_, _<_}
+use Prim.Native.Nat.{ℕ, zero, suc, _+_, _*_, _/_, _^_, _≤_, _<_}
 use native.Mathlib.Numerals.{add-one}
 use native.Mathlib.Omega.{arith}
 use borrow.Author.Tests.{le-leb, lt-ltb}
@@ -61,6 +61,10 @@ limit : mostRounds 16 ≡ 481
 unfolding mostRounds
 limit = refl
 
+limit-of : (n : ℕ) → mostRounds (n + 1) ≡ 1 + n * (64 / 2)
+unfolding mostRounds
+limit-of n = omega arith
+
 slots : mostSlots 16 ≡ 16 * 481
 unfolding mostSlots
 slots = rw limit
@@ -85,5 +89,6 @@ walks =
       number-10 = tests;
       sixteen-levels = λ family. sixteen family;
       most-rounds = limit;
+      rounds-of-levels = λ n. limit-of n;
       most-slots = slots;
     }

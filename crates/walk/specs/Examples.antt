@@ -2,7 +2,7 @@
 use mathlib.Core.Path.{_≡_}
 use mathlib.Core.List.{List, []}
 use mathlib.Core.Bool.{_&&_}
-use Prim.Native.Nat.{ℕ, zero, suc, _+_, _*_, _^_, _≤_}
+use Prim.Native.Nat.{ℕ, zero, suc, _+_, _*_, _/_, _^_, _≤_}
 use lib.Dec.{leb, ltb}
 use lib.ListN.{length}
 use Rattle.walk.specs.declared.Walk.{Walk}
@@ -43,4 +43,6 @@ pub record Walks : Type 0 where
   -- "its 16 levels", "481 for 64", and sixteen slots in each of 481 rounds
   pub sixteen-levels : (family : ℕ) → levelsOf (started family) ≡ 16
   pub most-rounds : mostRounds 16 ≡ 481
+  -- "at most 1 + 15 × (n / 2 rounded down)", with 64 cards and a level more than these 15
+  pub rounds-of-levels : (n : ℕ) → mostRounds (n + 1) ≡ 1 + n * (64 / 2)
   pub most-slots : mostSlots 16 ≡ 16 * 481

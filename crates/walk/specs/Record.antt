@@ -15,13 +15,13 @@ places = 64
 unfoldable pub levelsOf : Walk → ℕ
 levelsOf w = length (w .marks)
 
--- "overrun (round 482 would be needed)": 1 + 15 × (64 / 2), "481 for 64", where the levels are 16
+-- "overrun (round 482 would be needed)": of a walk of n levels, 1 + (n - 1) × (64 / 2); "481 for 64" where they are 16
 unfoldable pub mostRounds : ℕ → ℕ
-mostRounds levels = 32 * levels - 31
+mostRounds n = 32 * n - 31
 
--- "Slots 0 to 15 are then heard": so many slots in all rounds together
+-- "Slots 0 to 15 are then heard": so many slots in all rounds of n levels together
 unfoldable pub mostSlots : ℕ → ℕ
-mostSlots levels = 16 * mostRounds levels
+mostSlots n = 16 * mostRounds n
 
 -- "mask length 4k with k from 0 to 15", in bits
 unfoldable pub maskLength : ℕ → ℕ
@@ -111,14 +111,14 @@ openedAt w j s =
 unfoldable pub opened : Walk → ℕ → Walk
 opened w j = openedAt w j (lowest (getD (w .marks) j 0))
 
--- no slot of so many levels waits
+-- no slot of n levels waits
 unfoldable pub noMarks : ℕ → List ℕ
-noMarks levels = replicate levels 0
+noMarks n = replicate n 0
 
--- "a round count starting at 1", with no mask, no mark and an empty list: a walk of so many levels
+-- "a round count starting at 1", with no mask, no mark and an empty list: a walk of n levels
 unfoldable pub startedOf : ℕ → ℕ → Walk
-startedOf levels family =
-    record { mask = 0; marks = noMarks levels; rounds = 1; family = family; level = 0; slot = 0; count = 0; ending = running }
+startedOf n family =
+    record { mask = 0; marks = noMarks n; rounds = 1; family = family; level = 0; slot = 0; count = 0; ending = running }
 
 -- a fresh walk has 01's 16 levels
 unfoldable pub started : ℕ → Walk
