@@ -1,4 +1,5 @@
 pub mod Bytes
 pub mod Every
 pub mod Over
+pub mod Placed
 pub mod Puts
