@@ -1,0 +1,5 @@
+pub mod Request
+pub mod Reading
+pub mod Shown
+pub mod Exchange
+pub mod Steps
