@@ -13,7 +13,7 @@ programs := bench draw player
 
 # Every call of the header has a man page of its own name, which shows espenknoten(3).
 open := (
-calls := $(shell sed -nE 's/^(static inline )?[a-z0-9_]+ (ek_[a-z_]+)[$(open)].*/\2/p' include/espenknoten.h)
+calls := $(shell sed -nE 's/^(static inline |struct )?[a-z0-9_]+ (ek_[a-z_]+)[$(open)].*/\2/p' include/espenknoten.h)
 
 # Every C example has a target of its name.
 examples := $(notdir $(basename $(wildcard examples/*.c)))
@@ -36,6 +36,7 @@ help:
 	@echo 'make inventory  from C: code an inventory request as a pulse track and read it back (make demo-c does the same)'
 	@echo 'make tag        from C: play a tag; inventory, read, write, slot mark'
 	@echo 'make walk       from C: walk fields of cards'
+	@echo 'make tools      from C: walk a rack, and show length and wear of each tool in it'
 	@echo 'make install    programs, library, header, pkg-config file and pages below PREFIX ($(PREFIX)); make uninstall takes them away'
 	@echo 'make test       the whole gate: every proof, every must-fail edit, every comparison'
 	@echo 'make compare    hold the library against the independent implementation'

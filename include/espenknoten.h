@@ -21,10 +21,10 @@
  *     interrupt handler, no DMA. What reads one that the call may write can see
  *     it half done. A handler may make calls of its own with other buffers.
  *
- * A call that can't be served returns minus its number, one of EK_REFUSED_..,
- * and has then changed no byte. A call that is served leaves the bytes past
- * its result as it found them. The size of a buffer that a result goes to is
- * called room.
+ * A call that can't be served returns minus its number, one of EK_REFUSED_..
+ * (ek_read within a struct), and has then changed no byte. A call that is
+ * served leaves the bytes past its result as it found them. The size of a
+ * buffer that a result goes to is called room.
  *
  * The archive links into x86-64 programs only.
  */
@@ -45,7 +45,7 @@ extern "C" {
  * header and archive do not belong together. Refuses nothing.
  */
 #define EK_VERSION_MAJOR 2
-#define EK_VERSION_MINOR 0
+#define EK_VERSION_MINOR 1
 #define EK_VERSION_PATCH 0
 #define EK_VERSION                                                             \
     (65536 * EK_VERSION_MAJOR + 256 * EK_VERSION_MINOR + EK_VERSION_PATCH)
@@ -64,6 +64,8 @@ uint32_t ek_version(void);
  *                    EK_REFUSED_CARD_LOCK, EK_REFUSED_CARD_ROOM
  *   ek_walk_ask      EK_REFUSED_WALK, EK_REFUSED_ROOM
  *   ek_walk_hear_..  EK_REFUSED_WALK, EK_REFUSED_ENDED, EK_REFUSED_LIST
+ *   ek_make          EK_REFUSED_REQUEST, EK_REFUSED_ROOM
+ *   ek_read          EK_REFUSED_REQUEST, EK_REFUSED_ROOM, EK_REFUSED_ANSWER
  *
  * All others refuse nothing.
  */
@@ -74,9 +76,11 @@ uint32_t ek_version(void);
 #define EK_REFUSED_LIST (-5)            /* fewer than EK_LIST_PLACES places */
 #define EK_REFUSED_ENDED (-6)           /* hearing after an ending */
 #define EK_REFUSED_FRAME_OR_CODING (-7) /* frame over 64 bytes, or no coding */
+#define EK_REFUSED_REQUEST (-7)         /* a request that is not made */
 #define EK_REFUSED_ROOM (-8)            /* room short */
 #define EK_REFUSED_NO_TRACK (-9)        /* not a track */
 #define EK_REFUSED_WALK (-10)           /* a walk's record, see below */
+#define EK_REFUSED_ANSWER (-11)         /* not an answer to the request */
 
 /* The longest frame, in bytes. */
 #define EK_FRAME_MAX 64
@@ -512,6 +516,122 @@ int64_t ek_walk_hear_clash(struct ek_walk *walk, uint64_t *list,
                            size_t places);
 int64_t ek_walk_hear_bytes(struct ek_walk *walk, const uint8_t *bytes,
                            size_t length, uint64_t *list, size_t places);
+
+/*
+ * The reader's half of the block commands: a request to a tag, and what its
+ * answer says. The rack walks the field, asks each UID that was listed for its
+ * blocks, and shows them:
+ *
+ *     struct ek_request request = {0};
+ *     request.uid = list[i];
+ *     request.mode = EK_TO_UID;
+ *     request.command = EK_COMMAND_READ_SINGLE_BLOCK;
+ *     request.size = 4;
+ *     request.first = 2;
+ *     n = ek_make(request, NULL, 0, frame, sizeof frame);
+ *     .. send n bytes of frame, and listen: length bytes of answer
+ *     struct ek_reading got =
+ *         ek_read(request, answer, length, block, 4, NULL, 0);
+ *     if (got.answer < 0) ..                          not read
+ *     else if (EK_READ_KIND(got.answer) == EK_READ_ERROR) ..
+ *                                     the tag's code: EK_READ_VALUE(got.answer)
+ *     else ..                                    block has the tag's four bytes
+ *
+ * Every value of every field has a meaning. Fields that a command has no use
+ * for are not looked at, but for the size. The structs go by value: nothing of
+ * them is lent.
+ */
+struct ek_request {
+    uint64_t uid;    /* of the tag, where mode is EK_TO_UID */
+    uint16_t size;   /* the bytes of one of its blocks, 1 to EK_CARD_SIZE_MAX */
+    uint8_t command; /* one of EK_COMMAND_.. from READ_SINGLE_BLOCK on */
+    uint8_t mode;    /* one of EK_TO_.. below; all else: EK_TO_SELECTED */
+    uint8_t option;  /* 0: Option is not set; all else: it is */
+    uint8_t first;   /* the block of 20 to 23 and 2C */
+    uint8_t n;       /* how many more after it, of 23 and 2C */
+    uint8_t value;   /* the AFI or DSFID that 27 and 29 write */
+};
+
+/* To whom a request goes. Select (25) goes to a UID only. */
+#define EK_TO_ALL 0      /* every tag that is not Quiet */
+#define EK_TO_UID 1      /* the tag of this UID */
+#define EK_TO_SELECTED 2 /* the tag that is Selected */
+
+/* What a tag says of itself (2B). */
+struct ek_information {
+    uint64_t uid;
+    uint16_t blocks; /* how many, 1 to 256 */
+    uint16_t size;   /* the bytes of each, 1 to 256 */
+    uint8_t dsfid;
+    uint8_t afi;
+    uint8_t ic;    /* IC reference */
+    uint8_t flags; /* which of these the tag told: EK_INFORMATION_ALL */
+};
+
+#define EK_INFORMATION_ALL 0x0F
+
+/* What ek_read returns. */
+struct ek_reading {
+    int64_t answer; /* a refusal, else kind and value: see below */
+    struct ek_information information; /* zeros but for EK_READ_INFORMATION */
+};
+
+/* They have no padding: else this does not compile. */
+typedef char ek_request_has_16_bytes[sizeof(struct ek_request) == 16 ? 1 : -1];
+typedef char ek_reading_has_24_bytes[sizeof(struct ek_reading) == 24 ? 1 : -1];
+
+/* The longest request that ek_make makes, and the longest answer to one. */
+#define EK_MADE_MAX 45
+#define EK_ANSWER_MAX 8451
+
+/*
+ * Makes a request: its length, 4 to EK_MADE_MAX, with its check; its bytes
+ * stand at the start of frame. Data of length bytes are those that 21 writes;
+ * for another command they are not looked at.
+ * EK_REFUSED_REQUEST: command is none of 20 to 23 and 25 to 2C; or it is 25
+ * and mode is not EK_TO_UID; or size is not 1 to EK_CARD_SIZE_MAX; or command
+ * is 21 and length is not size. EK_REFUSED_ROOM, looked for after that: room
+ * is less than EK_MADE_MAX, whatever the request needs.
+ */
+int64_t ek_make(struct ek_request request, const uint8_t *data, size_t length,
+                uint8_t *frame, size_t room);
+
+/*
+ * Reads an answer of length bytes to this request. The number answer, if it is
+ * not negative, holds two: EK_READ_KIND(answer) is what was read, one of
+ * EK_READ_..; EK_READ_VALUE(answer) a count or a code:
+ *
+ *   EK_READ_DONE         0            21, 22, 25 to 2A: the tag has done it
+ *   EK_READ_BLOCKS       block bytes  20, 23: they stand at the start of
+ *                                     blocks; with Option a lock byte for each
+ *                                     block stands at the start of locks
+ *   EK_READ_LOCKS        lock bytes   2C: they stand at the start of locks
+ *   EK_READ_INFORMATION  0            2B: it stands in information
+ *   EK_READ_ERROR        code         the tag's error code, EK_ERROR_.. or any
+ *                                     other: no byte of either buffer changes
+ *
+ * EK_REFUSED_REQUEST: as for ek_make, but for the data. EK_REFUSED_ROOM, looked
+ * for after that: blocks or locks have no room for every byte asked. That is,
+ * for 20 and 23, size bytes of blocks for each block, and with Option a byte of
+ * locks; for 2C, Option or not, a byte of locks for each block; else none.
+ * EK_REFUSED_ANSWER, after that: the check is wrong; or the flags are neither
+ * EK_ANSWER_SUCCESS nor EK_ANSWER_ERROR; or an error has not 4 bytes; or a
+ * success has not the length that its request earns, as when the tag's blocks
+ * have another size; or the information does not begin with
+ * EK_INFORMATION_ALL.
+ */
+struct ek_reading ek_read(struct ek_request request, const uint8_t *answer,
+                          size_t length, uint8_t *blocks, size_t blocks_room,
+                          uint8_t *locks, size_t locks_room);
+
+#define EK_READ_DONE 1
+#define EK_READ_BLOCKS 2
+#define EK_READ_LOCKS 3
+#define EK_READ_INFORMATION 4
+#define EK_READ_ERROR 5
+
+#define EK_READ_KIND(answer) ((int)((answer) / 65536))
+#define EK_READ_VALUE(answer) ((size_t)((answer) % 65536))
 
 #ifdef __cplusplus
 }

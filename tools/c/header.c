@@ -612,6 +612,318 @@ static void orders_of_walk(void)
     MUST(ek_walk_ask(&walk, request, 0) == EK_SEND_MARK);
 }
 
+/* ---- the reader, with the card above */
+
+static uint8_t made[EK_MADE_MAX + 1];
+static uint8_t read_blocks[EK_CARD_BLOCKS_MAX * EK_CARD_SIZE_MAX + 1];
+static uint8_t read_locks[EK_CARD_BLOCKS_MAX + 1];
+static size_t said; /* how many bytes the card answered last */
+
+static struct ek_request asked(uint8_t mode, uint8_t command)
+{
+    struct ek_request wanted = {0};
+    wanted.uid = UID;
+    wanted.size = (uint16_t)size;
+    wanted.command = command;
+    wanted.mode = mode;
+    return wanted;
+}
+
+/* What is read of the card's last answer, over buffers of so many bytes. */
+static struct ek_reading reading(struct ek_request wanted, size_t blocks_room,
+                                 size_t locks_room)
+{
+    memset(read_blocks, 0xA5, sizeof read_blocks);
+    memset(read_locks, 0xA5, sizeof read_locks);
+    return ek_read(wanted, answer, said, read_blocks, blocks_room, read_locks,
+                   locks_room);
+}
+
+static bool untouched(size_t from_block, size_t from_lock)
+{
+    for (size_t i = from_block; i < sizeof read_blocks; i++) {
+        if (read_blocks[i] != 0xA5) {
+            return false;
+        }
+    }
+    for (size_t i = from_lock; i < sizeof read_locks; i++) {
+        if (read_locks[i] != 0xA5) {
+            return false;
+        }
+    }
+    return true;
+}
+
+/* Makes a request, lets it reach the card, and reads the answer. */
+static struct ek_reading exchange(struct ek_request wanted, const uint8_t *data)
+{
+    int64_t n = ek_make(wanted, data, data == NULL ? 0 : size, made,
+                        EK_MADE_MAX);
+    MUST(n >= 4 && n <= EK_MADE_MAX);
+    int64_t answered =
+        ek_card_frame(record, EK_CARD_RECORD, made, (size_t)n, memory,
+                      blocks * size, locks, blocks, answer, sizeof answer);
+    MUST(answered > 0);
+    said = (size_t)answered;
+    return reading(wanted, EK_CARD_BLOCKS_MAX * EK_CARD_SIZE_MAX,
+                   EK_CARD_BLOCKS_MAX);
+}
+
+static bool reads(struct ek_reading got, int kind, size_t value)
+{
+    return got.answer >= 0 && EK_READ_KIND(got.answer) == kind &&
+           EK_READ_VALUE(got.answer) == value;
+}
+
+static bool done(struct ek_reading got)
+{
+    return reads(got, EK_READ_DONE, 0) && untouched(0, 0);
+}
+
+/* The bytes of requests: flags by mode and Option, UID, bodies, check. */
+static void requests(void)
+{
+    const uint8_t data[SIZE] = {0xCA, 0xFE, 0xBA};
+    new_card();
+    for (unsigned mode = 0; mode < 256; mode++) {
+        struct ek_request wanted =
+            asked((uint8_t)mode, EK_COMMAND_RESET_TO_READY);
+        size_t n = mode == EK_TO_UID ? 10 : 2;
+        memset(made, 0xA5, sizeof made);
+        MUST(ek_make(wanted, NULL, 0, made, EK_MADE_MAX) == (int64_t)n + 2);
+        MUST(made[0] == (0x02 | (mode == EK_TO_ALL   ? 0
+                                 : mode == EK_TO_UID ? EK_FLAG_ADDRESS
+                                                     : EK_FLAG_SELECT)));
+        MUST(made[1] == EK_COMMAND_RESET_TO_READY);
+        MUST(n == 2 || ek_get_number(made + 2, 8) == UID);
+        MUST(ek_get_number(made + n, 2) == ek_check(made, n));
+        MUST(made[n + 2] == 0xA5 && made[EK_MADE_MAX] == 0xA5);
+    }
+    MUST(EK_TO_SELECTED - 1 == EK_TO_UID && EK_TO_ALL + 1 == EK_TO_UID);
+
+    struct ek_request wanted =
+        asked(EK_TO_SELECTED, EK_COMMAND_WRITE_SINGLE_BLOCK);
+    wanted.option = 0xFF;
+    wanted.first = 0x11;
+    MUST(ek_make(wanted, data, SIZE, made, EK_MADE_MAX) == 5 + SIZE);
+    MUST(made[0] == (0x02 | EK_FLAG_SELECT | EK_FLAG_OPTION));
+    MUST(made[2] == 0x11 && memcmp(made + 3, data, SIZE) == 0);
+    wanted = asked(EK_TO_ALL, EK_COMMAND_READ_MULTIPLE_BLOCKS);
+    wanted.first = 0x11;
+    wanted.n = 0x22;
+    MUST(ek_make(wanted, NULL, 0, made, EK_MADE_MAX) == 6);
+    MUST(made[2] == 0x11 && made[3] == 0x22);
+    wanted = asked(EK_TO_ALL, EK_COMMAND_WRITE_AFI);
+    wanted.value = 0x33;
+    MUST(ek_make(wanted, NULL, 0, made, EK_MADE_MAX) == 5 && made[2] == 0x33);
+}
+
+/* Each kind of reading, of what our card holds. */
+static void readings(void)
+{
+    const uint8_t data[SIZE] = {0xCA, 0xFE, 0xBA};
+    struct ek_request wanted;
+    struct ek_reading got;
+    new_card();
+    wanted = asked(EK_TO_UID, EK_COMMAND_READ_SINGLE_BLOCK);
+    wanted.first = 2;
+    MUST(reads(exchange(wanted, NULL), EK_READ_BLOCKS, SIZE));
+    MUST(memcmp(read_blocks, memory + 2 * SIZE, SIZE) == 0);
+    MUST(untouched(SIZE, 0));
+    wanted.command = EK_COMMAND_WRITE_SINGLE_BLOCK;
+    MUST(done(exchange(wanted, data)));
+    MUST(memcmp(memory + 2 * SIZE, data, SIZE) == 0);
+    wanted.command = EK_COMMAND_LOCK_BLOCK;
+    MUST(done(exchange(wanted, NULL)) && locks[2] == 1);
+    MUST(reads(exchange(wanted, NULL), EK_READ_ERROR, EK_ERROR_RELOCK));
+    MUST(untouched(0, 0));
+    wanted.command = EK_COMMAND_WRITE_SINGLE_BLOCK;
+    MUST(reads(exchange(wanted, data), EK_READ_ERROR, EK_ERROR_LOCKED));
+
+    wanted = asked(EK_TO_ALL, EK_COMMAND_READ_MULTIPLE_BLOCKS);
+    wanted.first = 1;
+    wanted.n = 2;
+    MUST(reads(exchange(wanted, NULL), EK_READ_BLOCKS, 3 * SIZE));
+    MUST(memcmp(read_blocks, memory + SIZE, 3 * SIZE) == 0);
+    MUST(untouched(3 * SIZE, 0));
+    wanted.option = 1;
+    MUST(reads(exchange(wanted, NULL), EK_READ_BLOCKS, 3 * SIZE));
+    MUST(memcmp(read_blocks, memory + SIZE, 3 * SIZE) == 0);
+    MUST(memcmp(read_locks, locks + 1, 3) == 0 && untouched(3 * SIZE, 3));
+    wanted.n = BLOCKS - 1;
+    MUST(reads(exchange(wanted, NULL), EK_READ_ERROR, EK_ERROR_BLOCK));
+    MUST(untouched(0, 0));
+    wanted = asked(EK_TO_ALL, EK_COMMAND_GET_MULTIPLE_BLOCK_SECURITY_STATUS);
+    wanted.n = 2;
+    MUST(reads(exchange(wanted, NULL), EK_READ_LOCKS, 3));
+    MUST(memcmp(read_locks, locks, 3) == 0 && untouched(0, 3));
+
+    wanted = asked(EK_TO_UID, EK_COMMAND_SELECT);
+    MUST(done(exchange(wanted, NULL)));
+    MUST(ek_card_mode(record) == EK_MODE_SELECTED);
+    wanted = asked(EK_TO_SELECTED, EK_COMMAND_WRITE_AFI);
+    wanted.value = 0x30;
+    MUST(done(exchange(wanted, NULL)) && ek_card_afi(record) == 0x30);
+    wanted.command = EK_COMMAND_WRITE_DSFID;
+    MUST(done(exchange(wanted, NULL)) && ek_card_dsfid(record) == 0x30);
+    wanted.command = EK_COMMAND_LOCK_AFI;
+    MUST(done(exchange(wanted, NULL)) && ek_card_afi_locked(record));
+    wanted.command = EK_COMMAND_LOCK_DSFID;
+    MUST(done(exchange(wanted, NULL)) && ek_card_dsfid_locked(record));
+    wanted.command = EK_COMMAND_RESET_TO_READY;
+    MUST(done(exchange(wanted, NULL)) && ek_card_mode(record) == EK_MODE_READY);
+
+    new_card();
+    got = exchange(asked(EK_TO_ALL, EK_COMMAND_GET_SYSTEM_INFORMATION), NULL);
+    MUST(reads(got, EK_READ_INFORMATION, 0) && untouched(0, 0));
+    MUST(got.information.uid == UID && got.information.blocks == BLOCKS);
+    MUST(got.information.size == SIZE && got.information.dsfid == 0xD5);
+    MUST(got.information.afi == 0xAF && got.information.ic == 0x1C);
+    MUST(got.information.flags == EK_INFORMATION_ALL);
+}
+
+/* The longest request and the longest answer. */
+static void longest(void)
+{
+    struct ek_request wanted;
+    new_card();
+    blocks = EK_CARD_BLOCKS_MAX;
+    size = EK_CARD_SIZE_MAX;
+    ek_card_new(record, UID, EK_CARD_BLOCKS_MAX, EK_CARD_SIZE_MAX);
+    wanted = asked(EK_TO_UID, EK_COMMAND_WRITE_SINGLE_BLOCK);
+    wanted.first = 255;
+    MUST(done(exchange(wanted, memory)));
+    MUST(ek_make(wanted, memory, size, made, EK_MADE_MAX) == EK_MADE_MAX);
+    wanted = asked(EK_TO_UID, EK_COMMAND_READ_MULTIPLE_BLOCKS);
+    wanted.option = 1;
+    wanted.n = 255;
+    MUST(reads(exchange(wanted, NULL), EK_READ_BLOCKS, blocks * size));
+    MUST(said == EK_ANSWER_MAX);
+    MUST(memcmp(read_blocks, memory, blocks * size) == 0);
+    MUST(memcmp(read_locks, locks, blocks) == 0);
+    MUST(untouched(blocks * size, blocks));
+}
+
+static bool refuses(struct ek_reading got, int64_t number)
+{
+    static const struct ek_reading none;
+    return got.answer == number && untouched(0, 0) &&
+           memcmp(&got.information, &none.information,
+                  sizeof none.information) == 0;
+}
+
+/* Whether neither making nor reading takes the request. */
+static bool no_request(struct ek_request wanted)
+{
+    return ek_make(wanted, memory, SIZE, made, 0) == EK_REFUSED_REQUEST &&
+           refuses(reading(wanted, 0, 0), EK_REFUSED_REQUEST);
+}
+
+static void orders_of_reader(void)
+{
+    struct ek_request wanted;
+    new_card();
+    said = 0;
+    for (unsigned command = 0; command < 256; command++) {
+        bool listed = command >= EK_COMMAND_READ_SINGLE_BLOCK &&
+                      command <= EK_COMMAND_GET_MULTIPLE_BLOCK_SECURITY_STATUS;
+        MUST(no_request(asked(EK_TO_UID, (uint8_t)command)) ==
+             (!listed || command == 0x24));
+    }
+    MUST(no_request(asked(EK_TO_ALL, EK_COMMAND_SELECT)));
+    MUST(no_request(asked(EK_TO_SELECTED, EK_COMMAND_SELECT)));
+    wanted = asked(EK_TO_ALL, EK_COMMAND_LOCK_AFI);
+    wanted.size = 0;
+    MUST(no_request(wanted));
+    wanted.size = EK_CARD_SIZE_MAX + 1;
+    MUST(no_request(wanted));
+    wanted.size = 256 + 1;
+    MUST(no_request(wanted));
+    wanted.size = EK_CARD_SIZE_MAX;
+    MUST(!no_request(wanted));
+    wanted.size = 1;
+    MUST(!no_request(wanted));
+
+    /* 7, 8 to make; data for a write alone. */
+    wanted = asked(EK_TO_UID, EK_COMMAND_WRITE_SINGLE_BLOCK);
+    memset(made, 0xA5, sizeof made);
+    MUST(ek_make(wanted, memory, SIZE - 1, made, 0) == EK_REFUSED_REQUEST);
+    MUST(ek_make(wanted, memory, SIZE + 1, made, 0) == EK_REFUSED_REQUEST);
+    MUST(ek_make(wanted, memory, SIZE, made, EK_MADE_MAX - 1) ==
+         EK_REFUSED_ROOM);
+    MUST(made[0] == 0xA5);
+    wanted.command = EK_COMMAND_LOCK_BLOCK;
+    MUST(ek_make(wanted, memory, SIZE + 1, made, EK_MADE_MAX) == 13);
+
+    /* 7, 8, 11 to read. */
+    wanted = asked(EK_TO_ALL, EK_COMMAND_READ_MULTIPLE_BLOCKS);
+    wanted.option = 1;
+    wanted.n = 1;
+    MUST(reads(exchange(wanted, NULL), EK_READ_BLOCKS, 2 * SIZE));
+    answer[1]++;
+    wanted.size = 0;
+    MUST(refuses(reading(wanted, 0, 0), EK_REFUSED_REQUEST));
+    wanted.size = SIZE;
+    MUST(refuses(reading(wanted, 2 * SIZE - 1, 2), EK_REFUSED_ROOM));
+    MUST(refuses(reading(wanted, 2 * SIZE, 1), EK_REFUSED_ROOM));
+    MUST(refuses(reading(wanted, 2 * SIZE, 2), EK_REFUSED_ANSWER));
+    answer[1]--;
+    MUST(reads(reading(wanted, 2 * SIZE, 2), EK_READ_BLOCKS, 2 * SIZE));
+    wanted.size++;
+    MUST(refuses(reading(wanted, 3 * SIZE, 2), EK_REFUSED_ANSWER));
+    wanted = asked(EK_TO_ALL, EK_COMMAND_GET_MULTIPLE_BLOCK_SECURITY_STATUS);
+    MUST(refuses(reading(wanted, 0, 0), EK_REFUSED_ROOM));
+    MUST(reads(exchange(wanted, NULL), EK_READ_LOCKS, 1));
+    MUST(reads(reading(wanted, 0, 1), EK_READ_LOCKS, 1));
+}
+
+/* Bytes with their check, read as the answer to a request for no data. */
+static int64_t heard(uint8_t command, const uint8_t *bytes, size_t length)
+{
+    struct ek_reading got;
+    memcpy(answer, bytes, length);
+    MUST(ek_seal(answer, sizeof answer, length) == (int64_t)length + 2);
+    said = length + 2;
+    got = reading(asked(EK_TO_ALL, command), 0, 0);
+    MUST(untouched(0, 0));
+    return got.answer;
+}
+
+#define HEARD(command, ...)                                                    \
+    heard(command, (const uint8_t[]){__VA_ARGS__},                             \
+          sizeof((const uint8_t[]){__VA_ARGS__}))
+
+/* What is no answer: its flags, the length of an error and of a success, and
+ * information that is not whole. A tag may have any error code. */
+static void answers(void)
+{
+    uint8_t information[15] = {EK_ANSWER_SUCCESS, EK_INFORMATION_ALL};
+    MUST(HEARD(EK_COMMAND_LOCK_AFI, EK_ANSWER_SUCCESS) == 65536 * EK_READ_DONE);
+    MUST(HEARD(EK_COMMAND_LOCK_AFI, EK_ANSWER_ERROR + 1) == EK_REFUSED_ANSWER);
+    MUST(HEARD(EK_COMMAND_LOCK_AFI, EK_ANSWER_SUCCESS, 0) == EK_REFUSED_ANSWER);
+    MUST(HEARD(EK_COMMAND_LOCK_AFI, EK_ANSWER_ERROR) == EK_REFUSED_ANSWER);
+    MUST(HEARD(EK_COMMAND_LOCK_AFI, EK_ANSWER_ERROR, 0x12, 0) ==
+         EK_REFUSED_ANSWER);
+    for (unsigned code = 0; code < 256; code++) {
+        int64_t got =
+            HEARD(EK_COMMAND_LOCK_AFI, EK_ANSWER_ERROR, (uint8_t)code);
+        MUST(EK_READ_KIND(got) == EK_READ_ERROR && EK_READ_VALUE(got) == code);
+    }
+    information[12] = information[13] = 0xFF;
+    int64_t got = heard(EK_COMMAND_GET_SYSTEM_INFORMATION, information, 15);
+    MUST(got >= 0 && EK_READ_KIND(got) == EK_READ_INFORMATION);
+    struct ek_reading largest =
+        reading(asked(EK_TO_ALL, EK_COMMAND_GET_SYSTEM_INFORMATION), 0, 0);
+    MUST(largest.information.blocks == 256 && largest.information.size == 256);
+    information[1] = EK_INFORMATION_ALL - 1;
+    MUST(heard(EK_COMMAND_GET_SYSTEM_INFORMATION, information, 15) ==
+         EK_REFUSED_ANSWER);
+    for (said = 0; said < 3; said++) {
+        MUST(refuses(reading(asked(EK_TO_ALL, EK_COMMAND_LOCK_AFI), 0, 0),
+                     EK_REFUSED_ANSWER));
+    }
+}
+
 int main(void)
 {
     version();
@@ -632,5 +944,10 @@ int main(void)
     full();
     overrun();
     orders_of_walk();
+    requests();
+    readings();
+    longest();
+    orders_of_reader();
+    answers();
     return 0;
 }

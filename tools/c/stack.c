@@ -30,6 +30,9 @@ static uint8_t track[EK_TRACK_MAX];
 static struct ek_walk walk;
 static uint64_t list[EK_LIST_PLACES];
 static uint8_t request[EK_REQUEST_MAX];
+static struct ek_request asked;
+static uint8_t blocks[sizeof memory];
+static uint8_t read_locks[sizeof locks];
 static int64_t back;
 
 static void enter(void)
@@ -117,6 +120,18 @@ static void walk_hear_bytes(void)
     back = ek_walk_hear_bytes(&walk, frame, length, list, EK_LIST_PLACES);
 }
 
+static void make(void)
+{
+    back = ek_make(asked, memory, EK_CARD_SIZE_MAX, frame, sizeof frame);
+}
+
+static void read_answer(void)
+{
+    back = ek_read(asked, answer, length, blocks, sizeof blocks, read_locks,
+                   sizeof read_locks)
+               .answer;
+}
+
 static size_t most;
 
 static void measure(void (*what)(void))
@@ -201,12 +216,46 @@ static void walks(void)
     }
 }
 
+/* Every command in every mode, with Option and without, made; and what the
+ * largest card answers to it read, to 23 with all of its blocks. */
+static void reader(void)
+{
+    for (unsigned command = 0x20; command <= 0x2C; command++) {
+        for (unsigned mode = EK_TO_ALL; mode <= EK_TO_SELECTED; mode++) {
+            for (unsigned option = 0; option < 2; option++) {
+                if (command == 0x24 || (command == EK_COMMAND_SELECT &&
+                                        mode != EK_TO_UID)) {
+                    continue;
+                }
+                memset(&asked, 0, sizeof asked);
+                memset(locks, 0, sizeof locks);
+                asked.command = (uint8_t)command;
+                asked.size = EK_CARD_SIZE_MAX;
+                asked.mode = (uint8_t)mode;
+                asked.option = (uint8_t)option;
+                asked.n = 255;
+                ek_card_new(record, 0, EK_CARD_BLOCKS_MAX, EK_CARD_SIZE_MAX);
+                record[EK_CARD_MODE] = EK_MODE_SELECTED;
+                measure(make);
+                length = (size_t)back;
+                card_frame();
+                if (back == 0) { /* held */
+                    card_mark();
+                }
+                length = (size_t)back;
+                measure(read_answer);
+            }
+        }
+    }
+}
+
 int main(void)
 {
     measure(version);
     tracks();
     card();
     walks();
+    reader();
     printf("%u\n", (unsigned)most);
     return 0;
 }

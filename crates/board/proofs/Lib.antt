@@ -1,4 +1,5 @@
 mod Told
+mod Answered
 mod Ways
 pub mod CardCalls
 pub mod ReadBack
@@ -7,3 +8,5 @@ mod Records
 mod Numbers
 mod WalkTold
 pub mod UniqueWalked
+pub mod UniqueAnswers
+pub mod ErrorShown

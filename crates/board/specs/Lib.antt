@@ -2,3 +2,4 @@ pub mod Calls
 pub mod Walked
 pub mod Steps
 pub mod Version
+pub mod Answers

@@ -1,6 +1,7 @@
 // The functions that the rack board's C firmware calls, each a thin shell with the promise of the one it calls; the card's over the bytes of
 // its record.
 // include/espenknoten.h declares them.
+pub mod answers;
 pub mod in_place;
 
 ghost use mathlib.Core.Path.{_≡_};
@@ -18,7 +19,7 @@ use play::Served;
 // The version, as the file VERSION and the header have it.
 const MAJOR: u32 = 2;
 
-const MINOR: u32 = 0;
+const MINOR: u32 = 1;
 
 const PATCH: u32 = 0;
 

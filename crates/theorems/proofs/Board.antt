@@ -19,12 +19,17 @@ use Rattle.walk.specs.Record.{started}
 use Rattle.walk.specs.Hear.{hearing}
 use Rattle.walk.specs.declared.Kind.the-variants.{Bytes, Clash, Silence}
 use Rattle.board.specs.Version.{version}
+use Rattle.board.specs.Answers.{ReadsByValue}
+use Rattle.reader.specs.Request.{Makes}
+use Rattle.reader.specs.Reading.{reading}
 use Rattle.board.specs.Walked.{AsksInPlace, HearsInPlace}
 use Rattle.walk.specs.Ask.{asking}
 use Rattle.frames.proofs.Unique.{seal-unique}
 use Rattle.tracks.proofs.Unique.{code-unique, decode-unique}
 use Rattle.board.proofs.Unique.{gives-unique}
 use Rattle.board.proofs.UniqueWalked.{hear-in-place-unique, ask-in-place-unique}
+use Rattle.board.proofs.UniqueAnswers.{read-by-value-unique}
+use Rattle.reader.proofs.Unique.{make-unique}
 use Rattle.board.proofs.ek_version as ek-version
 use Rattle.board.proofs.ek_check as ek-check
 use Rattle.board.proofs.ek_is_sound as ek-is-sound
@@ -39,6 +44,8 @@ use Rattle.board.proofs.in_place.ek_walk_hear_silence as ek-walk-hear-silence
 use Rattle.board.proofs.in_place.ek_walk_hear_clash as ek-walk-hear-clash
 use Rattle.board.proofs.in_place.ek_walk_hear_bytes as ek-walk-hear-bytes
 use Rattle.board.proofs.in_place.ek_walk_ask as ek-walk-ask
+use Rattle.board.proofs.answers.ek_make as ek-make
+use Rattle.board.proofs.answers.ek_read as ek-read
 use Rattle.theorems.specs.Contract.{Contract}
 use Rattle.theorems.proofs.Kept.{kept}
 
@@ -129,3 +136,16 @@ module _ {M : Type 1} (𝓤 : URA M) (H : Heap 𝓤) (A : Atoms 𝓤) (mem : Mem
   ek-walk-ask-contract =
       kept 𝓤 H A ek-walk-ask.ended _ _ _ refl (λ κs a. (tt, id⊢ 𝓤 _)) (λ κs a g r e. id⊢ 𝓤 _)
       (λ κs a r s x y p q. let u : _ = ask-in-place-unique _ r s _ _ p q in (u .0, λ i. (tt, (u .1 i, tt))))
+
+  ek-make-contract : Contract 𝓤 H A ek-make.ended (ek-make.spec 𝓤 H A mem run) (ek-make.clauses 𝓤 H A mem run)
+      (λ κs a r e. Makes (a .0) (now (a .1 .0)) (now (a .1 .1 .0)) r (now (e .1 .1 .0)))
+  ek-make-contract =
+      kept 𝓤 H A ek-make.ended _ _ _ refl (λ κs a. (tt, id⊢ 𝓤 _)) (λ κs a g r e. id⊢ 𝓤 _)
+      (λ κs a r s x y p q. let u : _ = make-unique _ _ _ p q in (u .0, λ i. (tt, (tt, (u .1 i, tt)))))
+
+  ek-read-contract : Contract 𝓤 H A ek-read.ended (ek-read.spec 𝓤 H A mem run) (ek-read.clauses 𝓤 H A mem run)
+      (λ κs a r e.
+      ReadsByValue (reading (a .0) (now (a .1 .0)) (now (a .1 .1 .0)) (now (a .1 .1 .1 .0))) r (now (e .1 .1 .0)) (now (e .1 .1 .1 .0)))
+  ek-read-contract =
+      kept 𝓤 H A ek-read.ended _ _ _ refl (λ κs a. (tt, id⊢ 𝓤 _)) (λ κs a g r e. id⊢ 𝓤 _)
+      (λ κs a r s x y p q. let u : _ = read-by-value-unique _ r s _ _ _ _ p q in (u .0, λ i. (tt, (tt, (u .1 i, (u .2 i, tt))))))

@@ -7,7 +7,7 @@ use mathlib.Core.List.{List, [], _∷_, _++_}
 use Prim.Native.Nat.{ℕ, suc, _+_, _-_, _*_, _%_, _^_, _≤_, _<_}
 use lib.Dec.{eqb}
 use lib.IntN.{ℤ, pos}
-use lib.ListN.{length, take, getD}
+use lib.ListN.{length, take, getD, replicate}
 use Rattle.lent.specs.Bytes.{Bytes}
 use Rattle.lent.specs.Lent.{over}
 use Rattle.crc.specs.Check.{sealed, isSealed}
@@ -37,6 +37,7 @@ use Rattle.record.specs.Record.{cardRead, writeLeaves}
 use Rattle.record.proofs.RoundTrip.{read-of-write}
 use Rattle.commands.specs.Frame.{leaving, decided}
 use Rattle.commands.proofs.Rules.{inventory-frame}
+use Rattle.play.specs.declared.Served.{Served}
 use Rattle.play.specs.Refusal.{refusal, Accepted}
 use Rattle.play.specs.Fits.{DeedFits}
 use Rattle.play.specs.Events.{Outcome, unserved, frameEvent, markEvent, offEvent, AcceptedNext}
@@ -49,6 +50,21 @@ use Rattle.play.proofs.Life.{lived-stays, lived-one, lived-append}
 use Rattle.play.proofs.Examples.{card-examples}
 use Rattle.board.specs.Calls.{frameCall, markCall, offCall}
 use Rattle.board.proofs.ReadBack.{frame-reads-back, mark-reads-back, off-reads-back, frame-leaves-bytes, mark-leaves-bytes, off-leaves-bytes}
+use Rattle.reader.specs.declared.Request.{Request}
+use Rattle.reader.specs.declared.Reading.the-variants.{Nothing, Error}
+use Rattle.reader.specs.declared.Told.{Told}
+use Rattle.reader.specs.Request.{frame, isRequest, dataFits}
+use Rattle.reader.specs.Reading.{blockBytes, lockBytes, earned, outcome, shownIn, reading, Reads, IsAnswer, showsData, ErrorShowsNothing}
+use Rattle.reader.specs.Exchange.{Fits as FitsCard, Sent, Exchange, Succeeds, Written}
+use Rattle.reader.proofs.Lengths.{length-frame-least, length-frame-most, frame-sound, longestRequest, longest-made}
+use Rattle.reader.proofs.AnswerRead.{part-read, code-read}
+use Rattle.reader.proofs.Eleven.{read-of-answer, answer-of-read, else-eleven}
+use Rattle.reader.proofs.Errors.{error-shows-nothing}
+use Rattle.reader.proofs.Exchange.{exchange}
+use Rattle.reader.proofs.Written.{written-then-read}
+use Rattle.board.specs.declared.answers.Shown.{Shown}
+use Rattle.board.specs.Answers.{noInformation, ReadsByValue}
+use Rattle.board.proofs.ErrorShown.{error-shows-c-nothing}
 use Rattle.walk.specs.declared.Walk.{Walk}
 use Rattle.walk.specs.declared.Kind.{Kind}
 use Rattle.walk.specs.declared.Slot.the-variants.{Clean}
@@ -204,6 +220,75 @@ bytes-after-a-mark = mark-leaves-bytes
 bytes-after-power-off : (bytes memory locks found : List ℕ) → Bytes bytes
     → Bytes (offCall bytes memory locks found .bytes) × (length (offCall bytes memory locks found .bytes) ≡ length bytes)
 bytes-after-power-off = off-leaves-bytes
+
+-- ---- The reader: tool data on the rack screen
+
+-- A request made here, served by a card, is read back as what the card holds. Any card whose record, memory, lock bytes and room are not refused, in any mode, with
+-- anything running or held (`FitsCard`); any request that 7 does not refuse, for 20, 21 and 23 of the card's block size; whatever the promises of `make` and of the card's call
+-- allow (`Sent`). The card is silent exactly if it is not called or its answer is held. Else whatever the promise of `read` allows for its answer, into any two buffers with
+-- room, shows the code that the rules page gives for the card and its lock bytes before the request, or what card, memory and lock bytes hold after it; and so
+-- for a held answer at the slot mark that releases it. What the request does to the card is said too. All this is `Exchange`, crates/reader/specs/Exchange.antt with Shown.antt beside it.
+an-exchange : (q : Request) (written : List ℕ) (c : Card) (memory locks found : List ℕ) → FitsCard c memory locks found q
+    → (r : Served) (memoryLeft locksLeft answer : List ℕ) → Sent q written c memory locks found r memoryLeft locksLeft answer
+    → Exchange q written c memory locks r memoryLeft locksLeft answer
+an-exchange = exchange
+
+-- An error answer never shows data, whatever bytes arrive: anything but an error is read from flags 00 alone, and an error shows the byte after flags 01 and leaves
+-- both buffers as they were.
+an-error-shows-nothing : (q : Request) (answer blocks locks : List ℕ) (r : Told) (blocksLeft locksLeft : List ℕ)
+    → Reads (reading q answer blocks locks) r blocksLeft locksLeft → ErrorShowsNothing answer blocks locks r blocksLeft locksLeft
+an-error-shows-nothing = error-shows-nothing
+
+-- From C: where no data are read, of an error or of bytes that are refused, the information is all zeros too.
+an-error-shows-c-nothing : (q : Request) (answer blocks locks : List ℕ) (r : Shown) (blocksLeft locksLeft : List ℕ)
+    → ReadsByValue (reading q answer blocks locks) r blocksLeft locksLeft → showsData (reading q answer blocks locks .reading) ≡ false
+    → (r .information ≡ noInformation) × (blocksLeft ≡ blocks) × (locksLeft ≡ locks)
+an-error-shows-c-nothing = error-shows-c-nothing
+
+-- Where 7 and 8 do not refuse, bytes are read exactly if they are 01 and a code, sealed, or 00 and a part, sealed, of the length that the request earned, for 2B beginning
+-- with 0F (`IsAnswer`); all else is number 11 and changes nothing.
+an-answer-is-read : (q : Request) (answer blocks locks : List ℕ) → isRequest q ≡ true → blockBytes q ≤ length blocks → lockBytes q ≤ length locks
+    → IsAnswer q answer → reading q answer blocks locks .number ≡ 0
+an-answer-is-read = read-of-answer
+
+only-an-answer-is-read : (q : Request) (answer blocks locks : List ℕ) → isRequest q ≡ true → blockBytes q ≤ length blocks → lockBytes q ≤ length locks
+    → reading q answer blocks locks .number ≡ 0 → IsAnswer q answer
+only-an-answer-is-read = answer-of-read
+
+all-else-is-eleven : (q : Request) (answer blocks locks : List ℕ) → isRequest q ≡ true → blockBytes q ≤ length blocks → lockBytes q ≤ length locks
+    → (IsAnswer q answer → ⊥) → reading q answer blocks locks ≡ outcome 11 Nothing blocks locks
+all-else-is-eleven = else-eleven
+
+-- And as what they are read: a success as its part, and an error as its code.
+a-success-is-its-part : (q : Request) → isRequest q ≡ true → (blocks locks : List ℕ) → blockBytes q ≤ length blocks → lockBytes q ≤ length locks
+    → (part : List ℕ) → length part + 3 ≡ earned q → (q .command ≡ 0x2b → getD part 0 0 ≡ 0x0f)
+    → reading q (sealed (0x00 ∷ part)) blocks locks ≡ shownIn q part blocks locks
+a-success-is-its-part = part-read
+
+an-error-is-its-code : (q : Request) → isRequest q ≡ true → (blocks locks : List ℕ) → blockBytes q ≤ length blocks → lockBytes q ≤ length locks
+    → (code : ℕ) → reading q (sealed (0x01 ∷ code ∷ [])) blocks locks ≡ outcome 0 (Error code) blocks locks
+an-error-is-its-code = code-read
+
+-- What was written comes back: 21, answered with success at once or at a slot mark, then 20 of that block, answered.
+what-was-written : (w : Request) (written : List ℕ) (c : Card) (memory locks found : List ℕ) → FitsCard c memory locks found w → w .command ≡ 0x21
+    → (r : Served) (memoryLeft locksLeft answer : List ℕ) → Sent w written c memory locks found r memoryLeft locksLeft answer
+    → (next : Card) (memoryNext locksNext : List ℕ) → Succeeds w r memoryLeft locksLeft answer next memoryNext locksNext
+    → Written w written memory locks next memoryNext locksNext
+what-was-written = written-then-read
+
+-- A request has 4 to 45 bytes and is sound; 45 is met.
+a-request-has-4-bytes : (q : Request) (written : List ℕ) → 4 ≤ length (frame q written)
+a-request-has-4-bytes = length-frame-least
+
+a-request-has-45-bytes : (q : Request) (written : List ℕ) → isRequest q ≡ true → dataFits q (length written) ≡ true → length (frame q written) ≤ 45
+a-request-has-45-bytes = length-frame-most
+
+a-request-is-sound : (q : Request) (written : List ℕ) → isRequest q ≡ true → dataFits q (length written) ≡ true → isSound (frame q written) ≡ true
+a-request-is-sound = frame-sound
+
+the-longest-request : (isRequest longestRequest ≡ true) × (dataFits longestRequest (length (replicate {A = ℕ} 32 0)) ≡ true)
+    × (length (frame longestRequest (replicate 32 0)) ≡ 45)
+the-longest-request = longest-made
 
 -- ---- The walk
 

@@ -1,4 +1,4 @@
--- The walk, the bench, its input and the picture: the contract of each call asks nothing, says the claim that is written out here, and
+-- The walk, the reader, the bench, its input and the picture: the contract of each call asks nothing, says the claim that is written out here, and
 -- allows one result. By the contracts themselves. Assumes nothing. a: the arguments. r: what is returned. e: the parameters at exit.
 use mathlib.Core.Path.{_∙_, _≡_, refl, sym}
 use lib.ListN.{take}
@@ -13,12 +13,16 @@ use denote.Ref.{now}
 use Rattle.walk.specs.Ask.{Asks, asking}
 use Rattle.walk.specs.Hear.{Hears, hearing}
 use Rattle.walk.specs.Record.{isAccepted, started}
+use Rattle.reader.specs.Request.{Makes}
+use Rattle.reader.specs.Reading.{Reads, reading}
 use Rattle.row.specs.Play.{ended, freshDesk, goesOn, slotted}
 use Rattle.row.specs.Row.{HearsRow, cardsOf, deskAfter}
 use Rattle.lines.specs.Lines.{freshLines, readFrom}
 use Rattle.report.specs.Bench.{Prints}
 use Rattle.picture.specs.Drawn.{Pictures}
 use Rattle.walk.proofs.Unique.{ask-unique, hear-unique}
+use Rattle.reader.proofs.Unique.{make-unique}
+use Rattle.reader.proofs.UniqueRead.{read-unique}
 use Rattle.row.proofs.Unique.{listen-row-unique}
 use Rattle.report.proofs.Unique.{prints-unique}
 use Rattle.picture.proofs.Unique.{pictures-unique}
@@ -26,6 +30,8 @@ use Rattle.walk.proofs.Walk.ask as walk-ask
 use Rattle.walk.proofs.Walk.hear as walk-hear
 use Rattle.walk.proofs.Walk.start as walk-start
 use Rattle.walk.proofs.Walk.is_accepted as walk-is-accepted
+use Rattle.reader.proofs.Request.make as request-make
+use Rattle.reader.proofs.Request.read as request-read
 use Rattle.row.proofs.play.fresh as row-fresh
 use Rattle.row.proofs.play.deal as row-deal
 use Rattle.row.proofs.play.hear as row-hear
@@ -62,6 +68,21 @@ module _ {M : Type 1} (𝓤 : URA M) (H : Heap 𝓤) (A : Atoms 𝓤) (mem : Mem
   walk-is-accepted-contract : Contract 𝓤 H A walk-is-accepted.ended (walk-is-accepted.spec 𝓤 H A mem run) (walk-is-accepted.clauses 𝓤 H A mem run)
       (λ κs a r e. r ≡ isAccepted (a .0))
   walk-is-accepted-contract = kept 𝓤 H A walk-is-accepted.ended _ _ _ refl (λ κs a. (tt, id⊢ 𝓤 _)) (λ κs a g r e. id⊢ 𝓤 _) (λ κs a r s x y p q. (p ∙ sym q, refl))
+
+  -- ---- reader
+
+  request-make-contract : Contract 𝓤 H A request-make.ended (request-make.spec 𝓤 H A mem run) (request-make.clauses 𝓤 H A mem run)
+      (λ κs a r e. Makes (a .0) (now (a .1 .0)) (now (a .1 .1 .0)) r (now (e .1 .1 .0)))
+  request-make-contract =
+      kept 𝓤 H A request-make.ended _ _ _ refl (λ κs a. (tt, id⊢ 𝓤 _)) (λ κs a g r e. id⊢ 𝓤 _)
+      (λ κs a r s x y p q. let u : _ = make-unique _ _ _ p q in (u .0, λ i. (tt, (tt, (u .1 i, tt)))))
+
+  request-read-contract : Contract 𝓤 H A request-read.ended (request-read.spec 𝓤 H A mem run) (request-read.clauses 𝓤 H A mem run)
+      (λ κs a r e.
+      Reads (reading (a .0) (now (a .1 .0)) (now (a .1 .1 .0)) (now (a .1 .1 .1 .0))) r (now (e .1 .1 .0)) (now (e .1 .1 .1 .0)))
+  request-read-contract =
+      kept 𝓤 H A request-read.ended _ _ _ refl (λ κs a. (tt, id⊢ 𝓤 _)) (λ κs a g r e. id⊢ 𝓤 _)
+      (λ κs a r s x y p q. let u : _ = read-unique _ p q in (u .0, λ i. (tt, (tt, (u .1 i, (u .2 i, tt))))))
 
   -- ---- row
 
