@@ -2,7 +2,7 @@
 -- Assumes nothing.
 use mathlib.Core.Path.{_≡_, refl, sym, ap, _∙_}
 use mathlib.Core.List.{List, [], _∷_, _++_}
-use Prim.Native.Nat.{ℕ, zero, suc, _+_, _-_, _*_, _≤_, _<_, min}
+use Prim.Native.Nat.{ℕ, zero, suc, _+_, _-_, _≤_, _<_, min}
 use native.Mathlib.Decide.{decLe}
 use native.Mathlib.Omega.{arith}
 use borrow.Author.Tests.{lt-leb}
@@ -11,9 +11,7 @@ use lib.ListN.{length, take, length-take, length-append}
 use lib.Seq.{take-nil, length-take-le}
 use Rattle.lent.specs.Lent.{placed}
 use Rattle.lent.proofs.Over.{length-placed, placed-none, placed-placed, placed-start, take-over}
-use Rattle.hex.specs.Rows.{rowText}
 use Rattle.hex.specs.Put.{putLeaves, PutsText}
-use Rattle.hex.proofs.Rows.{length-row-text}
 use Rattle.hex.proofs.Put.{put-leaves}
 use Rattle.player.specs.Text.{cut, Adds}
 
@@ -122,14 +120,12 @@ adds-put at s e f room count {r} is-room is-count p = go (decLe at (length e))
         let short : length e < at + length (take count s) = omega arith in
         record { next = next; leaves = rw (none, placed-none) (p .leaves ∙ rw (lt-leb (at + length (take count s)) (length e) short) refl) }
 
--- ---- a row that was put into a buffer of its own
+-- ---- parts of buffers
 
-pub row-taken : (bytes found left : List ℕ) {r : ℤ} → PutsText (rowText bytes) found 0 r left → 3 * length bytes ≤ length found
-    → take (3 * length bytes) left ≡ rowText bytes
-row-taken bytes found left p h =
-    let long : length (rowText bytes) ≡ 3 * length bytes = length-row-text bytes in
-    rw (put-leaves p (omega arith), placed-start (rowText bytes) found, ← long) (take-over (rowText bytes) found)
+-- what was put at the start of a buffer
+pub text-taken : (k : ℕ) (s found left : List ℕ) {r : ℤ} → PutsText s found 0 r left → k ≡ length s → length s ≤ length found → take k left ≡ s
+text-taken k s found left p is-k h = rw (is-k, put-leaves p (omega arith), placed-start s found) (take-over s found)
 
-pub row-length : (bytes found left : List ℕ) {r : ℤ} → PutsText (rowText bytes) found 0 r left → 3 * length bytes ≤ length found
-    → 3 * length bytes ≡ length (take (3 * length bytes) left)
-row-length bytes found left p h = rw (row-taken bytes found left p h) (sym (length-row-text bytes))
+-- the first n bytes, or all of them
+pub first-taken : (n count : ℕ) (s : List ℕ) → count ≡ min n (length s) → take count s ≡ take n s
+first-taken n count s h = rw h (take-min n s)

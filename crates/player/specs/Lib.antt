@@ -1,2 +1,4 @@
 pub mod Text
+pub mod Answer
 pub mod Record
+pub mod Shown

@@ -11,7 +11,7 @@ use frames::LONGEST_ANSWER;
 use play::Served;
 
 // One number of the card's shape, or 0 where it is over its limit: the card refuses such a shape.
-fn within(n: u32, most: usize) -> usize
+pub(crate) fn within(n: u32, most: usize) -> usize
     ensures { λ r. ⌜ r ≤ most ⌝ }
 {
     if n as usize <= most { n as usize } else { 0 }
@@ -43,6 +43,19 @@ fn serve(
 }
 
 // Plays an event with as much of memory and locks as is the card's.
+pub(crate) fn serve_card(
+    event: Event,
+    frame: &[u8],
+    card: Card,
+    memory: &mut [u8],
+    locks: &mut [u8],
+    room: &mut [u8],
+) -> Served {
+    let m = up_to(cells(card), memory);
+    let n = up_to(within(card.blocks, 256), locks);
+    serve(event, frame, card, &mut memory[..m], &mut locks[..n], room)
+}
+
 pub(crate) fn play(
     event: Event,
     line: &[u8],
@@ -52,16 +65,7 @@ pub(crate) fn play(
     locks: &mut [u8],
 ) -> Desk {
     let mut room = [0u8; LONGEST_ANSWER];
-    let m = up_to(cells(card), memory);
-    let n = up_to(within(card.blocks, 256), locks);
-    let served = serve(
-        event,
-        frame,
-        card,
-        &mut memory[..m],
-        &mut locks[..n],
-        &mut room,
-    );
+    let served = serve_card(event, frame, card, memory, locks, &mut room);
     let next = served.card;
     after(next, tell(line, served, &room))
 }

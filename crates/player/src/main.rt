@@ -1,7 +1,9 @@
 // Plays one card from a script, and prints what the card says. docs/man/espenknoten-player.1 tells the script.
+mod ask;
 mod desk;
 mod lines;
 mod script;
+mod shown;
 mod told;
 
 ghost use mathlib.Core.Path.{_≡_};

@@ -1,4 +1,6 @@
 // The lines of the script: the one that tells the card, the events, and the words that show it.
+use crate::ask::ask;
+use crate::ask::is_ask;
 use crate::desk::play;
 use crate::desk::show_locks;
 use crate::desk::show_memory;
@@ -20,6 +22,7 @@ pub(crate) enum Event {
 // What a line asks for once there is a card.
 enum Order {
     Play(Event),
+    Ask,
     Memory,
     Locks,
     Wrong,
@@ -34,7 +37,7 @@ pub(crate) enum Stage {
 }
 
 // Two and four digits as a number.
-fn pair(line: &[u8], at: usize) -> u8 {
+pub(crate) fn pair(line: &[u8], at: usize) -> u8 {
     hex::number(line, at, 2) as u8
 }
 
@@ -98,6 +101,9 @@ fn order_of(line: &[u8], frame: &mut [u8]) -> Order {
         let sealed = io::count(frames::seal(frame, n) as isize, frame);
         return Order::Play(Event::Frame(sealed));
     }
+    if is_ask(line) {
+        return Order::Ask;
+    }
     short_order(line)
 }
 
@@ -153,6 +159,7 @@ impl Desk {
         let order = order_of(line, &mut frame);
         match order {
             Order::Play(event) => play(event, line, &frame, card, memory, locks),
+            Order::Ask => ask(line, card, memory, locks),
             Order::Memory => after(card, show_memory(line, card, memory)),
             Order::Locks => after(card, show_locks(line, card, locks)),
             Order::Wrong => self.ended(Stage::BadLine),

@@ -1,9 +1,9 @@
 // What is printed: each line that is played, the answer, and the record after it.
-ghost use Prim.Native.Nat.{_≤_};
-ghost use lib.ListN.{length};
 ghost use mathlib.Core.List.{[], _∷_, _++_};
+ghost use Rattle.hex.specs.Digits.{hexDigits};
 ghost use Rattle.hex.specs.Rows.{rowText};
 ghost use Rattle.player.specs.Text.{Adds};
+ghost use Rattle.player.specs.Answer.{pairsText, refusedText, answerText};
 ghost use Rattle.player.specs.Record.{modeText, maskText, runningText, sequenceText, heldText, keptText, recordText};
 use crate::least;
 use crate::up_to;
@@ -15,11 +15,12 @@ use frames::LONGEST_ANSWER;
 use libc::STDOUT_FILENO;
 use play::Served;
 
-// Room for all that is told of a line: its 256 bytes, an answer in three for each byte, and a record of less than 128.
-const MOST_TOLD: usize = 256 + 3 * LONGEST_ANSWER + 128;
+// Room for all that is told of a line: its 256 bytes, a request of 45, an answer and what is read of it in three for each byte, and the words of
+// that and of a record, less than 256.
+pub(crate) const MOST_TOLD: usize = 256 + 3 * (45 + LONGEST_ANSWER + 8192 + 256) + 256;
 
 // Puts bytes at a place of a text, as many as it has room for, and returns the place after them.
-fn put(bytes: &[u8], text: &mut [u8], at: usize) -> usize
+pub(crate) fn put(bytes: &[u8], text: &mut [u8], at: usize) -> usize
     ensures { λ r. ⌜ Adds at (now (bytes .entry)) (now (text .entry)) r (now (text .exit)) ⌝ }
 {
     let count = least(text.len() - least(at, text.len()), bytes.len());
@@ -27,22 +28,51 @@ fn put(bytes: &[u8], text: &mut [u8], at: usize) -> usize
     at + count
 }
 
-// Puts a name and the row for up to eight bytes.
-fn put_row(name: &[u8], bytes: &[u8], text: &mut [u8], at: usize) -> usize
-    requires { ⌜ length (now bytes) ≤ 8 ⌝ }
-    ensures { λ r. ⌜ Adds at (now (name .entry) ++ rowText (now (bytes .entry))) (now (text .entry)) r (now (text .exit)) ⌝ }
+// Puts the pair for a byte after another byte: a space, or the line feed before a line.
+fn put_byte(before: u8, b: u8, text: &mut [u8], at: usize) -> usize
+    ensures { λ r. ⌜ Adds at (before ∷ hexDigits 2 b) (now (text .entry)) r (now (text .exit)) ⌝ }
 {
-    let mut row = [0u8; 24];
-    hex::put_row(bytes, &mut row, 0);
-    let next = put(name, text, at);
-    put(&row[..3 * bytes.len()], text, next)
+    let n = b as u64;
+    let three = [before, hex::digit(n / 16), hex::digit(n)];
+    put(&three, text, at)
 }
 
-fn put_pair(name: &[u8], b: u8, text: &mut [u8], at: usize) -> usize
+// Puts the row for bytes.
+fn put_row(bytes: &[u8], text: &mut [u8], at: usize) -> usize
+    ensures { λ r. ⌜ Adds at (rowText (now (bytes .entry))) (now (text .entry)) r (now (text .exit)) ⌝ }
+{
+    let mut next = at;
+    let mut i = 0;
+    while i < bytes.len() {
+        next = put_byte(b' ', bytes[i], text, next);
+        i += 1;
+    }
+    next
+}
+
+pub(crate) fn put_named(name: &[u8], bytes: &[u8], text: &mut [u8], at: usize) -> usize
+    ensures { λ r. ⌜ Adds at (now (name .entry) ++ rowText (now (bytes .entry))) (now (text .entry)) r (now (text .exit)) ⌝ }
+{
+    let next = put(name, text, at);
+    put_row(bytes, text, next)
+}
+
+pub(crate) fn put_pair(name: &[u8], b: u8, text: &mut [u8], at: usize) -> usize
     ensures { λ r. ⌜ Adds at (now (name .entry) ++ rowText (b ∷ [])) (now (text .entry)) r (now (text .exit)) ⌝ }
 {
     let one = [b];
-    put_row(name, &one, text, at)
+    put_named(name, &one, text, at)
+}
+
+// Puts the pairs for bytes on the next line, with single spaces between them.
+pub(crate) fn put_pairs(bytes: &[u8], text: &mut [u8], at: usize) -> usize
+    ensures { λ r. ⌜ Adds at (pairsText (now (bytes .entry))) (now (text .entry)) r (now (text .exit)) ⌝ }
+{
+    if bytes.len() == 0 {
+        return put(b"\n", text, at);
+    }
+    let next = put_byte(b'\n', bytes[0], text, at);
+    put_row(&bytes[1..], text, next)
 }
 
 fn put_mode(mode: Mode, text: &mut [u8], at: usize) -> usize
@@ -60,7 +90,7 @@ fn put_mask(mask: u64, text: &mut [u8], at: usize) -> usize
 {
     let mut bytes = [0u8; 8];
     frames::put_field(&mut bytes, 0, 8, mask);
-    put_row(b", mask", &bytes, text, at)
+    put_named(b", mask", &bytes, text, at)
 }
 
 // A sequence that runs.
@@ -118,21 +148,21 @@ fn put_record(card: Card, text: &mut [u8], at: usize) -> usize
     put_kept(b", DSFID", card.dsfid, card.dsfid_locked, text, afi_end)
 }
 
-// Puts the pairs for bytes on the next line, with single spaces between them: the line feed stands where the row has its first space.
-fn put_pairs(bytes: &[u8], text: &mut [u8], at: usize) -> usize {
-    let next = io::count(hex::put_row(bytes, text, at) as isize, text);
-    if at < text.len() {
-        text[at] = b'\n';
-    }
-    next
+// The number of a refusal, on the next line.
+pub(crate) fn put_refused(number: u8, text: &mut [u8], at: usize) -> usize
+    ensures { λ r. ⌜ Adds at (refusedText number) (now (text .entry)) r (now (text .exit)) ⌝ }
+{
+    let one = [hex::digit(number as u64)];
+    let next = put(b"\nrefused ", text, at);
+    put(&one, text, next)
 }
 
 // The answer, silence, or the number of the refusal, on the next line.
-fn put_answer(number: u8, answer: &[u8], text: &mut [u8], at: usize) -> usize {
+pub(crate) fn put_answer(number: u8, answer: &[u8], text: &mut [u8], at: usize) -> usize
+    ensures { λ r. ⌜ Adds at (answerText number (now (answer .entry))) (now (text .entry)) r (now (text .exit)) ⌝ }
+{
     if number != 0 {
-        let one = [hex::digit(number as u64)];
-        let next = put(b"\nrefused ", text, at);
-        return put(&one, text, next);
+        return put_refused(number, text, at);
     }
     if answer.len() == 0 {
         return put(b"\nsilence", text, at);
@@ -165,6 +195,12 @@ fn write(text: &mut [u8], at: usize) -> bool {
     is_written
 }
 
+// Ends what is told of an event with the record after it.
+pub(crate) fn tell_record(card: Card, text: &mut [u8], at: usize) -> bool {
+    let end = put_record(card, text, at);
+    write(text, end)
+}
+
 // Tells a line of the script, the answer to it and the record after it.
 pub(crate) fn tell(line: &[u8], served: Served, room: &[u8]) -> bool {
     let mut text = [0u8; MOST_TOLD];
@@ -172,8 +208,7 @@ pub(crate) fn tell(line: &[u8], served: Served, room: &[u8]) -> bool {
     let n = up_to(served.length, room);
     let answer = put_answer(served.number, &room[..n], &mut text, heard);
     let card = served.card;
-    let record = put_record(card, &mut text, answer);
-    write(&mut text, record)
+    tell_record(card, &mut text, answer)
 }
 
 // Tells a line of the script, and bytes, so many on a line.

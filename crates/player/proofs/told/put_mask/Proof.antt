@@ -12,14 +12,14 @@ slice-aggregate-put-field c = search needs
 put-field-requires : tie.Need-put-field-requires
 put-field-requires c κs = search needs
 
-slice-aggregate-put-row : tie.Need-slice-aggregate-put-row
-slice-aggregate-put-row c = search needs
+slice-aggregate-put-named : tie.Need-slice-aggregate-put-named
+slice-aggregate-put-named c = search needs
 
-slice-aggregate-put-row-2 : tie.Need-slice-aggregate-put-row-2
-slice-aggregate-put-row-2 c = search needs
+slice-aggregate-put-named-2 : tie.Need-slice-aggregate-put-named-2
+slice-aggregate-put-named-2 c = search needs
 
-put-row-requires : tie.Need-put-row-requires
-put-row-requires c κs = search needs
+put-named-requires : tie.Need-put-named-requires
+put-named-requires c κs = search needs
 
 same-length : tie.Need-same-length
 same-length c = search needs
@@ -30,7 +30,7 @@ returns c =
     let field = c .before .before .before .before .before .before .before in
     let mask = field .before .before .before .args .mask in
     let bytes = field-filled mask _ (field .put-field .last .0) (field .put-field .ensures) (omega arith) in
-    rw bytes at (c .before .before .put-row .ensures)
+    rw bytes at (c .before .before .put-named .ensures)
 
 pub put-mask-spec : {M : Type 1} → statement M
 put-mask-spec =
@@ -38,8 +38,8 @@ put-mask-spec =
     (tie.spec
     slice-aggregate-put-field
     put-field-requires
-    slice-aggregate-put-row
-    slice-aggregate-put-row-2
-    put-row-requires
+    slice-aggregate-put-named
+    slice-aggregate-put-named-2
+    put-named-requires
     same-length
     returns)

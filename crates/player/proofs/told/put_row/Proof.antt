@@ -1,55 +1,64 @@
--- `player::told::put_row` meets its contract: the row is put into a buffer of its own, and added after the name. Assumes nothing.
-use borrow.Author.Needs.{needs}
+-- `player::told::put_row` meets its contract. The loop's invariant: the row of the bytes so far was added. The measure is how many are left.
+-- Assumes nothing.
 use native.Mathlib.Omega.{arith}
-use Rattle.player.proofs.Adding.{adds-then, row-taken, row-length}
-use Rattle.player.proofs.told.put_row.Tie as tie
+use mathlib.Core.Path.{_≡_, refl}
+use Prim.Native.Nat.{_-_, _≤_}
+use lib.ListN.{length, take}
+use lib.Seq.{take-all}
+use Rattle.hex.specs.Rows.{rowText}
+use Rattle.player.specs.Text.{Adds}
+use Rattle.player.proofs.Adding.{adds-then, adds-none}
+use Rattle.player.proofs.Rows.{row-more}
 use Rattle.player.proofs.told.put_row.Statement.{statement}
+use Rattle.player.proofs.told.put_row.Tie as tie
 
-slice-aggregate-put-row : tie.Need-slice-aggregate-put-row
-slice-aggregate-put-row c = search needs
+abbrev Inv-loop : tie.InvT-loop
+Inv-loop bytes text₀ at next₀ i₀ text next i = (i ≤ length bytes) × (length text ≡ length text₀) × Adds at (rowText (take i bytes)) text₀ next text
 
-put-row-requires : tie.Need-put-row-requires
-put-row-requires c κs = tt
+abbrev μ-loop : tie.MeasureT-loop
+μ-loop bytes text₀ at next₀ i₀ text next i = length bytes - i
 
-put-requires : tie.Need-put-requires
-put-requires c κs = tt
+loop-holds : tie.Need-loop-holds Inv-loop μ-loop
+unfolding rowText
+loop-holds c = (omega arith, refl, adds-none (c .before .before .args .at) (c .before .before .args .text .now))
 
-mul-row : tie.Need-mul-row
-mul-row c = search needs
+shared-slice-read-put-byte : tie.Need-shared-slice-read-put-byte Inv-loop μ-loop
+shared-slice-read-put-byte c = omega arith
 
-array-share-prefix-row : tie.Need-array-share-prefix-row
-array-share-prefix-row c = search needs
+put-byte-requires : tie.Need-put-byte-requires Inv-loop μ-loop
+put-byte-requires c κs = tt
 
-slice-aggregate-put : tie.Need-slice-aggregate-put
-slice-aggregate-put c =
-    let bytes = c .before .before .before .before .before .before .before .before .before .before .before .args .bytes .now in
-    let row = c .before .before .before .before .before .before .put-row in
-    row-length bytes _ (row .last .1 .0) (row .ensures) (omega arith)
+add-i : tie.Need-add-i Inv-loop μ-loop
+add-i c = omega arith
 
-put-requires-2 : tie.Need-put-requires-2
-put-requires-2 c κs = tt
+loop-less : tie.Need-loop-less Inv-loop μ-loop
+loop-less c = omega arith
 
-same-length : tie.Need-same-length
-same-length c = search needs
+loop-again : tie.Need-loop-again Inv-loop μ-loop
+loop-again c =
+    let loop = c .before .before .before .before .before .before .loop in
+    let bytes = c .before .before .before .before .before .before .before .before .before .args .bytes .now in
+    (omega arith, omega arith, rw (row-more bytes (loop .i) (omega arith)) at (adds-then (loop .inv .2) (c .before .before .put-byte .ensures)))
 
-returns : tie.Need-returns
+same-length : tie.Need-same-length Inv-loop μ-loop
+same-length c = omega arith
+
+returns : tie.Need-returns Inv-loop μ-loop
 returns c =
-    let filled = c .before .before .before .before .before .before .before .before .before .before in
-    let bytes = filled .before .before .before .before .before .args .bytes .now in
-    let row = filled .put-row in
-    let taken = row-taken bytes _ (row .last .1 .0) (row .ensures) (omega arith) in
-    adds-then (c .before .before .before .before .before .before .before .put .ensures) (rw taken at (c .before .before .put2 .ensures))
+    let bytes = c .before .before .before .before .args .bytes .now in
+    rw (take-all (c .before .loop .i) bytes (omega arith)) at (c .before .loop .inv .2)
 
 pub put-row-spec : {M : Type 1} → statement M
 put-row-spec =
     tie.close
     (tie.spec
-    slice-aggregate-put-row
-    put-row-requires
-    put-requires
-    mul-row
-    array-share-prefix-row
-    slice-aggregate-put
-    put-requires-2
+    Inv-loop
+    μ-loop
+    loop-holds
+    shared-slice-read-put-byte
+    put-byte-requires
+    add-i
+    loop-less
+    loop-again
     same-length
     returns)
