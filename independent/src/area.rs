@@ -65,6 +65,11 @@ impl Area {
         self.expected[self.lent.clone()][place..][..written.len()].copy_from_slice(written);
     }
 
+    /// The lent bytes as they stand.
+    pub fn lent(&self) -> &[u8] {
+        &self.bytes[self.lent.clone()]
+    }
+
     pub fn is_as_expected(&self) -> bool {
         self.bytes == self.expected
     }

@@ -2,6 +2,7 @@
 //! every byte of every lent buffer and its guards.
 
 mod card;
+pub mod reader;
 mod walk;
 
 use std::ops::Range;
@@ -27,6 +28,7 @@ pub struct Calls {
     decoding: Area,
     card: card::Areas,
     walk: walk::Areas,
+    reader: reader::Areas,
 }
 
 impl Calls {
@@ -43,6 +45,7 @@ impl Calls {
             decoding: Area::new(1100),
             card: card::Areas::new(),
             walk: walk::Areas::new(),
+            reader: reader::Areas::new(),
         }
     }
 
@@ -133,11 +136,11 @@ fn hexadecimal(answer: i64) -> String {
     format!("{answer:04X}")
 }
 
-fn judge(
+fn judge<Answer: Copy + PartialEq>(
     tally: &mut Tally,
     call: impl FnOnce() -> String,
-    words: fn(i64) -> String,
-    [board, reference]: [i64; 2],
+    words: fn(Answer) -> String,
+    [board, reference]: [Answer; 2],
     areas: &[&Area],
 ) {
     let same = board == reference && areas.iter().all(|area| area.is_as_expected());

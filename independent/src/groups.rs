@@ -9,6 +9,7 @@ mod fields;
 mod garbage_tracks;
 mod null_buffers;
 mod random_frames;
+mod reader;
 mod sealing;
 mod short_tracks;
 mod small_frames;
@@ -34,6 +35,9 @@ pub const GROUPS: &[(&str, Group)] = &[
     ("cards", cards::run),
     ("walks", walks::run),
     ("fields", fields::run),
+    ("reader", reader::exchanges::run),
+    ("reader, other answers", reader::answers::run),
+    ("reader, requests not made", reader::making::run),
 ];
 
 /// Bytes that tracks are made of, and some that almost are.

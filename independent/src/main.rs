@@ -6,8 +6,6 @@
 //!     --manifest-path independent/Cargo.toml
 //! ```
 //!
-//! With `--features walk` the walk's calls are compared too.
-//!
 //! Takes a seed, in decimal, or none. VECTORS_DIR names the vectors' folder.
 //! Status 0: no difference. 1: some, or a hole. 2: vectors unreadable.
 
@@ -54,6 +52,7 @@ fn run() -> Result<bool, String> {
     };
     let (checks, tracks) = (vectors::checks(&folder)?, vectors::tracks(&folder)?);
     let (cards, walks) = (vectors::cards(&folder)?, vectors::walk::walks(&folder)?);
+    let readers = vectors::reader::readers(&folder)?;
 
     println!("seed: {seed}");
     let mut calls = Calls::new(seed);
@@ -66,6 +65,8 @@ fn run() -> Result<bool, String> {
     calls.tally.end_group("vectors of cards");
     published::run_walks(&mut calls, &walks);
     calls.tally.end_group("vectors of walks");
+    published::run_readers(&mut calls, &readers);
+    calls.tally.end_group("vectors of the reader");
     for (name, group) in GROUPS {
         group(&mut calls, &mut random);
         calls.tally.end_group(name);

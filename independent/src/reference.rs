@@ -1,9 +1,9 @@
 //! The independent implementation: check, sealed frames, coder, decoder, card,
-//! walk, field and bench.
+//! walk, reader, field and bench.
 //!
 //! Written from the rules page ("Check and byte order", "Pulse tracks", "The
-//! card", "The walk", "Numbers of refused calls", "Bench", "Examples") and the
-//! C header. It works on sequences of single bits, digits and intervals, keeps
+//! card", "The walk", "Numbers of refused calls", "Bench", "Examples"), the
+//! change request W1 and the C header. It works on sequences of single bits, digits and intervals, keeps
 //! what waits in sets and looks tracks up in a dictionary, so that it shares no
 //! way of working with the library. Clear, not fast.
 
@@ -13,6 +13,7 @@ pub mod check;
 pub mod coder;
 pub mod decoder;
 pub mod field;
+pub mod reader;
 pub mod record;
 pub mod tails;
 pub mod walk;
@@ -36,4 +37,10 @@ pub enum Refusal {
     Room = 8,
     NoTrack = 9,
     Walk = 10,
+    Answer = 11,
+}
+
+impl Refusal {
+    /// A request that is not made: it has the coder's number.
+    pub const REQUEST: Refusal = Refusal::FrameOrCoding;
 }

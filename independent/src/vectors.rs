@@ -1,5 +1,6 @@
 //! Reads the vector files. Their heads say what a line holds.
 
+pub mod reader;
 pub mod walk;
 
 use std::fs;

@@ -4,7 +4,7 @@
 mod frames;
 mod kinds;
 mod refusals;
-mod tags;
+pub mod tags;
 
 use crate::calls::Calls;
 use crate::random::Random;
