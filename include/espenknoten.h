@@ -528,7 +528,8 @@ int64_t ek_walk_hear_bytes(struct ek_walk *walk, const uint8_t *bytes,
  *     request.command = EK_COMMAND_READ_SINGLE_BLOCK;
  *     request.size = 4;
  *     request.first = 2;
- *     n = ek_make(request, NULL, 0, frame, sizeof frame);
+ *     int64_t n = ek_make(request, NULL, 0, frame, sizeof frame);
+ *     if (n < 0) ..                                 refused: stop and tell
  *     .. send n bytes of frame, and listen: length bytes of answer
  *     struct ek_reading got =
  *         ek_read(request, answer, length, block, 4, NULL, 0);
