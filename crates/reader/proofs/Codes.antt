@@ -8,13 +8,14 @@ use native.Mathlib.Omega.{arith}
 use borrow.Author.Tests.{eqb-true, ne-eqb, leb-true, leb-false}
 use lib.Dec.{leb, eqb}
 use Rattle.card.specs.declared.Card.{Card}
+use Rattle.card.specs.declared.Reply.{Reply}
 use Rattle.card.specs.declared.Reply.the-variants as reply
 use Rattle.reader.specs.declared.Request.{Request}
 use Rattle.reader.specs.declared.Reading.the-variants.{Done}
 use Rattle.reader.specs.Request.{hasOption}
 use Rattle.reader.specs.Shown.{isHeld, mistakesOption, isOutside, codeOf, readingHeld, bytesHeld, marksHeld}
 use Rattle.reader.proofs.Asked.{replyTo}
-use Rattle.reader.proofs.Kept.{Kept}
+use Rattle.reader.proofs.Kept.{Kept, either-holds}
 use Rattle.reader.proofs.Spoken.{speaks}
 
 -- ---- no fault
@@ -33,9 +34,9 @@ unfolding isOutside
 inside-kept c d q same e = rw (same .blocks) e
 
 -- 21: its block is the card's
-pub block-inside : (c : Card) (q : Request) → q .command ≡ 0x21 → isOutside c q ≡ false → q .first < c .blocks
+pub first-inside : (c : Card) (q : Request) → q .command ≡ 0x21 → isOutside c q ≡ false → q .first < c .blocks
 unfolding isOutside
-block-inside c q is e = go (leb (c .blocks) (q .first)) refl (rw is at e)
+first-inside c q is e = go (leb (c .blocks) (q .first)) refl (rw is at e)
   where
     go : (b : Bool) → leb (c .blocks) (q .first) ≡ b → b ≡ false → q .first < c .blocks
     go true t h = absurd (false≢true (sym h))
@@ -43,17 +44,13 @@ block-inside c q is e = go (leb (c .blocks) (q .first)) refl (rw is at e)
 
 -- ---- a reply has bytes
 
-either-speaks : (test : Bool) (a b : _) → speaks a ≡ true → speaks b ≡ true → speaks (cond test a b) ≡ true
-either-speaks true a b p q = p
-either-speaks false a b p q = q
-
 pub reply-speaks : (q : Request) → speaks (replyTo q) ≡ true
 unfolding replyTo speaks
 reply-speaks q =
-    either-speaks (eqb (q .command) 0x20) _ _ refl
-    (either-speaks (eqb (q .command) 0x23) _ _ refl
-    (either-speaks (eqb (q .command) 0x2b) _ _ refl
-    (either-speaks (eqb (q .command) 0x2c) _ _ refl refl)))
+    either-holds (λ (r : Reply). speaks r ≡ true) (eqb (q .command) 0x20) _ _ refl
+    (either-holds (λ (r : Reply). speaks r ≡ true) (eqb (q .command) 0x23) _ _ refl
+    (either-holds (λ (r : Reply). speaks r ≡ true) (eqb (q .command) 0x2b) _ _ refl
+    (either-holds (λ (r : Reply). speaks r ≡ true) (eqb (q .command) 0x2c) _ _ refl refl)))
 
 -- ---- held answers
 

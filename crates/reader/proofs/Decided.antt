@@ -23,8 +23,11 @@ use Rattle.reader.specs.declared.Request.{Request}
 use Rattle.reader.specs.Request.{isAddressed, isForSelected, hasOption, flags, body, message, frame, isAsked, isRequest, dataFits}
 use Rattle.reader.specs.Shown.{movesBlocks, isListening, isChosen, isCalled}
 use Rattle.reader.proofs.Asked.{bodyAt, deedOf}
-use Rattle.reader.proofs.Freed.{Freed, either-freed, cleared-freed, mode-freed}
-use Rattle.reader.proofs.Places.{flagged, flags-of-request, rest-of-frame, uid-of-frame, parts-of-request, length-of-frame, body-length, asked-of-size, made-is-sound}
+use Rattle.reader.proofs.Kept.{either-holds}
+use Rattle.reader.proofs.Freed.{Freed, cleared-freed, mode-freed}
+use Rattle.reader.proofs.MakeWays.{parts-of-request}
+use Rattle.reader.proofs.Lengths.{frame-sound}
+use Rattle.reader.proofs.Places.{flagged, flags-of-request, rest-of-frame, uid-of-frame, length-of-frame, body-length, asked-of-size}
 use Rattle.reader.proofs.Commands.{least-asked, one-of-twelve}
 use Rattle.reader.proofs.Table.{table-of-request}
 
@@ -110,7 +113,7 @@ module _ (c : Card) (locks : List ℕ) (q : Request) (written : List ℕ) (is : 
       ≡ cond (isAddressed q) (cond (eqb (q .uid) (c .uid)) (deedOf c locks q) (passedBy (cleared c) (q .command)))
       (cond (cond (isForSelected q) (isChosen (c .mode)) (isListening (c .mode))) (deedOf c locks q) (silent (cleared c)))
   unfolding decided
-  decided-of-request = rw (made-is-sound q written is fits, first-byte q written, flags-of-request q) (requested-of-request (isAddressed q) refl)
+  decided-of-request = rw (frame-sound q written is fits, first-byte q written, flags-of-request q) (requested-of-request (isAddressed q) refl)
 
   pub decided-called : isCalled c q ≡ true → decided c locks (frame q written) ≡ deedOf c locks q
   unfolding isCalled
@@ -129,7 +132,7 @@ module _ (c : Card) (locks : List ℕ) (q : Request) (written : List ℕ) (is : 
   decided-not-called-free other =
       rw decided-of-request
       (other-does (λ (d : Deed). Freed (d .card)) (isAddressed q) _ _ _ _ _ other
-      (either-freed (eqb (q .command) 0x25 && isSelected (cleared c .mode)) (inMode Ready (cleared c)) (cleared c) (mode-freed Ready (cleared c) (cleared-freed c))
+      (either-holds Freed (eqb (q .command) 0x25 && isSelected (cleared c .mode)) (inMode Ready (cleared c)) (cleared c) (mode-freed Ready (cleared c) (cleared-freed c))
       (cleared-freed c)) (cleared-freed c))
 
 -- ---- the data of 21

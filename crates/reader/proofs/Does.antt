@@ -23,7 +23,7 @@ use Rattle.reader.specs.Request.{frame}
 use Rattle.reader.specs.Shown.{isCalled, isHeld, mistakesOption, isOutside, relocks, writesLocked, codeOf, memoryWritten, locksSet, modeGone, byteWritten, lockSet, Does}
 use Rattle.reader.proofs.Asked.{replyTo, bodyAt, effectOf, changedBy}
 use Rattle.reader.proofs.Commands.{OneOfTwelve, Is20, Is21, Is22, Is23, Is25, Is26, Is27, Is28, Is29, Is2a, Is2b, Is2c, one-of-twelve}
-use Rattle.reader.proofs.Places.{parts-of-request}
+use Rattle.reader.proofs.MakeWays.{parts-of-request}
 use Rattle.reader.proofs.Kept.{Kept, changed-kept, holding-kept}
 use Rattle.reader.proofs.Ready.{ready-of}
 use Rattle.reader.proofs.Stored.{stored-data, stored-nothing}

@@ -1,7 +1,7 @@
 -- A card that no sequence runs on and that holds no answer: so any request leaves it that does not hold its answer, and a slot mark finds it silent. By the tests of the
 -- definitions. Assumes nothing.
 use mathlib.Core.Path.{_≡_, refl, ap, _∙_}
-use mathlib.Core.Bool.{Bool, true, false, cond}
+use mathlib.Core.Bool.{Bool, true}
 use mathlib.Core.List.{List}
 use Prim.Native.Nat.{ℕ}
 use lib.Dec.{eqb}
@@ -17,15 +17,12 @@ use Rattle.play.specs.Refusal.{Accepted}
 use Rattle.play.specs.Events.{markEvent, Leaves}
 use Rattle.reader.specs.declared.Request.{Request}
 use Rattle.reader.proofs.Asked.{changedBy}
+use Rattle.reader.proofs.Kept.{either-holds}
 use Rattle.reader.proofs.Spoken.{mark-met, told-none}
 
 pub record Freed (c : Card) : Type 0 where
   pub held : c .held ≡ Free
   pub sequence : c .sequence ≡ Idle
-
-pub either-freed : (test : Bool) (c d : Card) → Freed c → Freed d → Freed (cond test c d)
-either-freed true c d p q = p
-either-freed false c d p q = q
 
 pub cleared-freed : (c : Card) → Freed (cleared c)
 unfolding cleared remade
@@ -46,12 +43,12 @@ dsfid-freed dsfid locked c p = record { held = p .held; sequence = p .sequence }
 pub changed-freed : (q : Request) (c : Card) → Freed c → Freed (changedBy q c)
 unfolding changedBy
 changed-freed q c p =
-    either-freed (eqb (q .command) 0x25) _ _ (mode-freed _ c p)
-    (either-freed (eqb (q .command) 0x26) _ _ (mode-freed _ c p)
-    (either-freed (eqb (q .command) 0x27) _ _ (afi-freed _ _ c p)
-    (either-freed (eqb (q .command) 0x28) _ _ (afi-freed _ _ c p)
-    (either-freed (eqb (q .command) 0x29) _ _ (dsfid-freed _ _ c p)
-    (either-freed (eqb (q .command) 0x2a) _ _ (dsfid-freed _ _ c p) p)))))
+    either-holds Freed (eqb (q .command) 0x25) _ _ (mode-freed _ c p)
+    (either-holds Freed (eqb (q .command) 0x26) _ _ (mode-freed _ c p)
+    (either-holds Freed (eqb (q .command) 0x27) _ _ (afi-freed _ _ c p)
+    (either-holds Freed (eqb (q .command) 0x28) _ _ (afi-freed _ _ c p)
+    (either-holds Freed (eqb (q .command) 0x29) _ _ (dsfid-freed _ _ c p)
+    (either-holds Freed (eqb (q .command) 0x2a) _ _ (dsfid-freed _ _ c p) p)))))
 
 -- a slot mark
 marked-still : (c : Card) → Freed c → marked c ≡ still c

@@ -1,19 +1,18 @@
 -- The part of an answer handed to the command that owns it: what each owner asks, and that what it leaves is what the request shows.
 -- By the tests that choose the owner. Assumes nothing.
 use mathlib.Core.Path.{_≡_, refl, sym}
-use mathlib.Core.Bool.{true, false, cond, and-eq-true-iff}
+use mathlib.Core.Bool.{true, false}
 use mathlib.Core.List.{List}
 use Prim.Native.Nat.{ℕ, _+_, _*_, _≤_}
 use native.Mathlib.Nat.{mul-le-mul}
 use native.Mathlib.Omega.{arith}
-use borrow.Author.Tests.{eq-eqb, ne-eqb, leb-true}
-use lib.Dec.{leb, eqb}
+use borrow.Author.Tests.{eq-eqb, ne-eqb}
 use lib.ListN.{length}
 use Rattle.lent.proofs.Over.{over-none}
 use Rattle.reader.specs.declared.Request.{Request}
 use Rattle.reader.specs.declared.Reading.{Reading}
 use Rattle.reader.specs.declared.Reading.the-variants.{Done, System}
-use Rattle.reader.specs.Request.{isAsked, isAddressed, isRequest}
+use Rattle.reader.specs.Request.{isRequest}
 use Rattle.reader.specs.Reading.{
   readsBlocks,
   count,
@@ -29,15 +28,8 @@ use Rattle.reader.specs.Reading.{
   shownIn,
 }
 use Rattle.reader.specs.Steps.{Splits, Copies, Hands}
+use Rattle.reader.proofs.MakeWays.{size-most}
 use Rattle.reader.proofs.Counts.{count-most}
-
-pub size-most : (q : Request) → isRequest q ≡ true → q .size ≤ 32
-unfolding isRequest
-size-most q h =
-    let mode = and-eq-true-iff (isAsked (q .command)) _ .0 h in
-    let least = and-eq-true-iff (cond (eqb (q .command) 0x25) (isAddressed q) true) _ .0 (mode .1) in
-    let most = and-eq-true-iff (leb 1 (q .size)) (leb (q .size) 32) .0 (least .1) in
-    leb-true (q .size) 32 (most .1)
 
 -- ---- 20 and 23
 

@@ -15,19 +15,20 @@ pub record Kept (c d : Card) : Type 0 where
   pub size : d .size ≡ c .size
   pub uid : d .uid ≡ c .uid
 
-either-kept : (c : Card) (test : Bool) (d e : Card) → Kept c d → Kept c e → Kept c (cond test d e)
-either-kept c true d e p q = p
-either-kept c false d e p q = q
+-- what holds of both holds of the one that is chosen
+pub either-holds : {A : Type 0} (P : A → Type 0) (test : Bool) (a b : A) → P a → P b → P (cond test a b)
+either-holds P true a b p q = p
+either-holds P false a b p q = q
 
 pub changed-kept : (q : Request) (c : Card) → Kept c (changedBy q (cleared c))
 unfolding changedBy cleared inMode withAfi withDsfid remade
 changed-kept q c =
-    either-kept c (eqb (q .command) 0x25) _ _ (record { blocks = refl; size = refl; uid = refl })
-    (either-kept c (eqb (q .command) 0x26) _ _ (record { blocks = refl; size = refl; uid = refl })
-    (either-kept c (eqb (q .command) 0x27) _ _ (record { blocks = refl; size = refl; uid = refl })
-    (either-kept c (eqb (q .command) 0x28) _ _ (record { blocks = refl; size = refl; uid = refl })
-    (either-kept c (eqb (q .command) 0x29) _ _ (record { blocks = refl; size = refl; uid = refl })
-    (either-kept c (eqb (q .command) 0x2a) _ _ (record { blocks = refl; size = refl; uid = refl })
+    either-holds (Kept c) (eqb (q .command) 0x25) _ _ (record { blocks = refl; size = refl; uid = refl })
+    (either-holds (Kept c) (eqb (q .command) 0x26) _ _ (record { blocks = refl; size = refl; uid = refl })
+    (either-holds (Kept c) (eqb (q .command) 0x27) _ _ (record { blocks = refl; size = refl; uid = refl })
+    (either-holds (Kept c) (eqb (q .command) 0x28) _ _ (record { blocks = refl; size = refl; uid = refl })
+    (either-holds (Kept c) (eqb (q .command) 0x29) _ _ (record { blocks = refl; size = refl; uid = refl })
+    (either-holds (Kept c) (eqb (q .command) 0x2a) _ _ (record { blocks = refl; size = refl; uid = refl })
     (record { blocks = refl; size = refl; uid = refl }))))))
 
 pub cleared-kept : (c : Card) → Kept c (cleared c)

@@ -38,15 +38,21 @@ pub refusal-of-passes : (q : Request) (written room : ℕ) → Passes q written 
 unfolding makeRefusal roomAsked
 refusal-of-passes q written room p = rw (p .asked, p .fits, le-leb 45 room (p .enough))
 
+-- what the tests of number 7 say
+pub parts-of-request : (q : Request) → isRequest q ≡ true
+    → (isAsked (q .command) ≡ true) × (cond (eqb (q .command) 0x25) (isAddressed q) true ≡ true) × (1 ≤ q .size) × (q .size ≤ 32)
+unfolding isRequest
+parts-of-request q is =
+    let mode : Bool = cond (eqb (q .command) 0x25) (isAddressed q) true in
+    let size : Bool = leb 1 (q .size) && leb (q .size) 32 in
+    let a = and-eq-true-iff (isAsked (q .command)) (mode && size) .0 is in
+    let b = and-eq-true-iff mode size .0 (a .1) in
+    let d = and-eq-true-iff (leb 1 (q .size)) (leb (q .size) 32) .0 (b .1) in
+    (a .0, b .0, leb-true 1 (q .size) (d .0), leb-true (q .size) 32 (d .1))
+
 -- blocks of 32 bytes at the most, and so the data of 21
 pub size-most : (q : Request) → isRequest q ≡ true → q .size ≤ 32
-unfolding isRequest
-size-most q e =
-    let mode : Bool = cond (eqb (q .command) 0x25) (isAddressed q) true in
-    let sizes : Bool = leb 1 (q .size) && leb (q .size) 32 in
-    let rest = and-eq-true-iff (isAsked (q .command)) (mode && sizes) .0 e in
-    let size = and-eq-true-iff mode sizes .0 (rest .1) in
-    leb-true (q .size) 32 (and-eq-true-iff (leb 1 (q .size)) (leb (q .size) 32) .0 (size .1) .1)
+size-most q is = parts-of-request q is .3
 
 pub written-most : (q : Request) (written : ℕ) → isRequest q ≡ true → dataFits q written ≡ true → q .command ≡ 0x21 → written ≤ 32
 unfolding dataFits

@@ -19,7 +19,7 @@ use Rattle.reader.specs.Request.{dataFits, frame}
 use Rattle.reader.specs.Shown.{movesBlocks, isOutside}
 use Rattle.reader.proofs.Asked.{bodyAt, effectOf}
 use Rattle.reader.proofs.Kept.{Kept}
-use Rattle.reader.proofs.Codes.{block-inside}
+use Rattle.reader.proofs.Codes.{first-inside}
 use Rattle.reader.proofs.Ready.{Ready}
 
 pub data-long : (q : Request) (n : ℕ) → q .command ≡ 0x21 → dataFits q n ≡ true → n ≡ q .size
@@ -63,7 +63,7 @@ module _ (q : Request) (written : List ℕ) (c d : Card) (memory locks : List �
       go : (b : Bool) → eqb (q .command) 0x21 ≡ b → length (memoryAfter d (frame q written) memory (effectOf q)) ≡ length memory
       go true e =
           let is : q .command ≡ 0x21 = eqb-true (q .command) 0x21 e in
-          let first : suc (q .first) ≤ c .blocks = block-inside c q is inside in
+          let first : suc (q .first) ≤ c .blocks = first-inside c q is inside in
           let all : suc (q .first) * q .size ≤ c .blocks * q .size = mul-le-mul-right (q .size) first in
           let stored : length memory ≡ c .blocks * q .size = rw (same (moves-21 q is)) (ready .stored) in
           let n : length written ≡ q .size = data-long q (length written) is of in

@@ -27,7 +27,7 @@ use Rattle.reader.specs.Exchange.Succeeds.{AtOnce, AtMark}
 use Rattle.reader.proofs.Asked.{changedBy}
 use Rattle.reader.proofs.Kept.{Kept, changed-kept, holding-kept}
 use Rattle.reader.proofs.Ready.{ready-of}
-use Rattle.reader.proofs.Codes.{inside-of, block-inside}
+use Rattle.reader.proofs.Codes.{inside-of, first-inside}
 use Rattle.reader.proofs.Spoken.{mark-met}
 use Rattle.reader.proofs.Stored.{data-long, moves-20, moves-21, stored-nothing}
 use Rattle.reader.proofs.Ends.{Meets, done-ends, done-held-ends}
@@ -117,7 +117,7 @@ module _ {w : Request} {written : List ℕ} {c : Card} {memory locks found : Lis
         locks-kept = does .locks-set ∙ not-22 (eqb (w .command) 0x22) refl;
         comes-back =
             reads-back w written c memory (data-long w (length written) is (met .of)) (met .fits .same-size (moves-21 w is)) (ready .stored)
-            (block-inside c w is (inside-of c locks w z)) next kept m l holds;
+            (first-inside c w is (inside-of c locks w z)) next kept m l holds;
       }
     where
       not-22 : (b : Bool) → eqb (w .command) 0x22 ≡ b → cond b (set locks (w .first) 1) locks ≡ locks
