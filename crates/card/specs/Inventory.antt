@@ -1,5 +1,5 @@
 -- 01, The card, step 3: "b3=1".
-use Prim.Native.Nat.{ℕ, _+_, _%_, _^_}
+use Prim.Native.Nat.{ℕ, _+_, _/_, _%_, _^_}
 use mathlib.Core.Bool.{Bool, true, false, cond, not, _&&_, _||_}
 use mathlib.Core.List.{List}
 use lib.Dec.{leb, eqb}
@@ -38,11 +38,11 @@ maskOf f frame n = fieldAt frame (lengthPlace f + 1) (maskBytes n) % 2 ^ n
 unfoldable pub totalLength : Flags → ℕ → ℕ
 totalLength f n = lengthPlace f + 1 + maskBytes n + 2
 
--- "the AFI is 00, or it equals the card's"
+-- 02, W2: "an asked AFI with a high digit and a zero low digit matches every card with that high digit; 00 matches all; any other matches only itself"
 unfoldable pub fitsFamily : ℕ → ℕ → Bool
-fitsFamily asked own = eqb asked 0x00 || eqb asked own
+fitsFamily asked own = cond (eqb (asked % 16) 0) (eqb asked 0x00 || eqb (asked / 16) (own / 16)) (eqb asked own)
 
--- "The card takes part if no AFI is present, the AFI is 00, or it equals the card's"
+-- "The card takes part if no AFI is present", or the one that is there matches it
 unfoldable pub takesPart : Card → Flags → List ℕ → Bool
 takesPart c f frame = cond (hasAfi f) (fitsFamily (getD frame 2 0) (c .afi)) true
 

@@ -38,11 +38,15 @@ fn total_length(f: Flags, n: u8) -> usize
     length_place(f) + 1 + mask_bytes(n) + 2
 }
 
-// Whether a card of a family answers an asked one.
+// Whether an asked AFI calls a card: a low digit 0 stands for all, and 00 for every card.
 fn fits_family(asked: u8, own: u8) -> bool
     ensures { λ r. ⌜ r ≡ fitsFamily asked own ⌝ }
 {
-    asked == 0x00 || asked == own
+    if asked % 16 == 0 {
+        (asked == 0x00) | (asked / 16 == own / 16)
+    } else {
+        asked == own
+    }
 }
 
 fn takes_part(card: Card, f: Flags, frame: &[u8]) -> bool

@@ -17,6 +17,7 @@ pub mod FixedField
 pub mod Next
 pub mod Suited
 pub mod Steps
+pub mod TableOne
 pub mod Request
 pub mod Requested
 pub mod Reply

@@ -29,6 +29,7 @@ use Rattle.walk.specs.Record.{maskLength, hasFamily}
 use Rattle.walk.specs.Ask.{requestHead, requestBody, request}
 use Rattle.walk.proofs.Requests.{length-head-least, length-body, length-request-most}
 use Rattle.field.specs.Field.{listens, familyFits, answers}
+use Rattle.field.proofs.TableOne.{fits-table}
 use Rattle.field.proofs.InTime.{inStep, calls}
 use Rattle.field.proofs.Request.{joined, family-parsed, none-parsed}
 
@@ -86,9 +87,9 @@ quiet-listens Selected = refl
 
 family-answers : (w : Walk) (c : Card) → hasFamily w ≡ true
     → (not (isQuiet (cleared c .mode)) && fitsFamily (w .family) (cleared c .afi)) ≡ answers (w .family) c
-unfolding answers familyFits fitsFamily hasFamily
+unfolding answers familyFits hasFamily
 family-answers w c e =
-    rw (cleared-mode c, cleared-afi c, quiet-listens (c .mode), lt-leb 256 (w .family) (ltb-true (w .family) 256 e))
+    rw (cleared-mode c, cleared-afi c, quiet-listens (c .mode), lt-leb 256 (w .family) (ltb-true (w .family) 256 e), fits-table (w .family) (c .afi))
 
 none-answers : (w : Walk) (c : Card) → hasFamily w ≡ false → (not (isQuiet (cleared c .mode)) && true) ≡ answers (w .family) c
 unfolding answers familyFits hasFamily

@@ -1,5 +1,5 @@
 -- Demand 3: "a field of cards that obey demand 2 .. One reply arrives whole; two or more in a slot arrive as a clash."
-use Prim.Native.Nat.{ℕ, _^_, _<_}
+use Prim.Native.Nat.{ℕ, zero, suc, _/_, _%_, _^_, _<_}
 use mathlib.Core.Bool.{Bool, true, false, cond, _&&_, _||_}
 use mathlib.Core.List.{List, [], _∷_}
 use mathlib.Core.Path.{_≡_}
@@ -31,9 +31,16 @@ listens Ready = true
 listens Quiet = false
 listens Selected = true
 
--- "The card takes part if no AFI is present, the AFI is 00, or it equals the card's". A family from 256 on is none
+-- 02, W2: "By ISO/IEC 15693-3, Table 1": its rows, by the two digits asked, 0 0, X 0, X Y and 0 Y; then the card's two
+unfoldable pub tableOne : ℕ → ℕ → ℕ → ℕ → Bool
+tableOne zero zero high low = true
+tableOne (suc x) zero high low = eqb (suc x) high
+tableOne (suc x) (suc y) high low = eqb (suc x) high && eqb (suc y) low
+tableOne zero (suc y) high low = eqb zero high && eqb (suc y) low
+
+-- 02, W2: "Demands 2 and 3 read 'its family' by this rule." A family from 256 on is none
 unfoldable pub familyFits : ℕ → ℕ → Bool
-familyFits family afi = leb 256 family || (eqb family 0x00 || eqb family afi)
+familyFits family afi = leb 256 family || tableOne (family / 16) (family % 16) (afi / 16) (afi % 16)
 
 unfoldable pub answers : ℕ → Card → Bool
 answers family c = listens (c .mode) && familyFits family (c .afi)

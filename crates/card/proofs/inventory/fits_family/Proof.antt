@@ -1,4 +1,4 @@
--- `card::inventory::fits_family` meets its contract: the definition goes by the same two tests. Assumes nothing.
+-- `card::inventory::fits_family` meets its contract: the definition goes by the same tests. Assumes nothing.
 use borrow.Author.Tests.{eq-eqb, ne-eqb}
 use Rattle.card.specs.Inventory.{fitsFamily}
 use Rattle.card.proofs.inventory.fits_family.Statement.{statement}
