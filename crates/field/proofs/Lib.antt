@@ -39,3 +39,4 @@ pub mod Demand3
 pub mod Rounds
 pub mod Examples
 pub mod Answering
+pub mod Families

@@ -5,3 +5,4 @@ pub mod Found
 pub mod Replies
 pub mod Demand
 pub mod Examples
+pub mod Families

@@ -2,9 +2,9 @@
 -- The definitions stand in the folders specs/ of the crates, each under the sentence of the rules page that it says. That every function
 -- meets its promise, never leaves what it was lent, and always returns, is what the gate's last line says of the crates themselves.
 use mathlib.Core.Path.{_≡_}
-use mathlib.Core.Bool.{true, false, _&&_}
+use mathlib.Core.Bool.{Bool, true, false, cond, _&&_}
 use mathlib.Core.List.{List, [], _∷_, _++_}
-use Prim.Native.Nat.{ℕ, suc, _+_, _-_, _*_, _%_, _^_, _≤_, _<_}
+use Prim.Native.Nat.{ℕ, suc, _+_, _-_, _*_, _/_, _%_, _^_, _≤_, _<_}
 use lib.Dec.{eqb}
 use lib.IntN.{ℤ, pos}
 use lib.ListN.{length, take, getD, replicate}
@@ -42,7 +42,7 @@ use Rattle.play.specs.Refusal.{refusal, Accepted}
 use Rattle.play.specs.Fits.{DeedFits}
 use Rattle.play.specs.Events.{Outcome, unserved, frameEvent, markEvent, offEvent, AcceptedNext}
 use Rattle.play.specs.Life.{Tag, AcceptedTag, Event, met, tagAfter, lived}
-use Rattle.play.specs.Examples.{CardExamples}
+use Rattle.play.specs.Examples.{Listens, CardExamples}
 use Rattle.play.proofs.Deeds.{decided-fits}
 use Rattle.play.proofs.Outcomes.{frame-refused, mark-refused, off-refused, frame-damaged}
 use Rattle.play.proofs.Stays.{frame-stays, mark-stays, off-stays}
@@ -72,18 +72,21 @@ use Rattle.walk.specs.Record.{maskLength, started, isRunning, complete}
 use Rattle.walk.specs.Hear.{judged}
 use Rattle.walk.specs.Examples.{Walks}
 use Rattle.walk.proofs.Examples.{walks}
-use Rattle.field.specs.Field.{Arrival, Obeys, answers, answering}
+use Rattle.field.specs.Field.{Arrival, Obeys, listens, familyFits, answers, answering}
 use Rattle.field.specs.Played.{playedFor, fresh}
 use Rattle.field.specs.Found.{Found}
 use Rattle.field.specs.Answering.{isHeard, heardOnce}
 use Rattle.field.specs.Replies.{heardAll, Holds, anyReplies}
 use Rattle.field.specs.Demand.{AllObey, Demand3, demand3, roundsCounted, roundsKept}
 use Rattle.field.specs.Examples.{FieldOfThree}
+use Rattle.field.specs.Families.{calling, begun, passedOver, Families}
 use Rattle.field.proofs.AnyWalk.{judged-fits, walk-of-any-replies}
 use Rattle.tails.specs.Tails.{sharedTails}
 use Rattle.field.proofs.Demand3.{walk-of-a-field, found-rounds}
 use Rattle.field.proofs.Rounds.{rounds-of-a-field, rounds-after-a-field}
 use Rattle.field.proofs.Answering.{card-heard-once}
+use Rattle.field.proofs.TableOne.{none-asked, all-asked, family-asked, only-asked}
+use Rattle.field.proofs.Families.{family-requested, families}
 use Rattle.field.proofs.Examples.{field-of-three}
 use Rattle.row.specs.Row.{cardsOf}
 use Rattle.row.specs.Row as row
@@ -342,6 +345,30 @@ cards-that-answer : (family : ℕ) (room : List ℕ) (t : Tag) → Obeys t → 1
 unfolding heardOnce
 cards-that-answer = card-heard-once
 
+-- Which these are, row by row of Table 1 of ISO/IEC 15693-3, for every card and all 256 asked bytes (02, a whole family of tools). Asked 00: all that
+-- listen, Ready or Selected.
+asked-00 : (c : Card) → answers 0x00 c ≡ listens (c .mode)
+asked-00 = all-asked
+
+-- Asked X0, X from 1 to F: those that listen and whose AFI has the high digit X.
+asked-x0 : (x : ℕ) → 1 ≤ x → x ≤ 15 → (c : Card) → answers (16 * x) c ≡ (listens (c .mode) && eqb x (c .afi / 16))
+asked-x0 = family-asked
+
+-- Asked any other byte, whose low digit is not 0: those that listen and whose AFI is that byte.
+asked-any-other : (asked : ℕ) → asked < 256 → 1 ≤ asked % 16 → (c : Card) → answers asked c ≡ (listens (c .mode) && eqb asked (c .afi))
+asked-any-other = only-asked
+
+-- And where no family is asked, all that listen.
+asked-none : (family : ℕ) → 256 ≤ family → (c : Card) → answers family c ≡ listens (c .mode)
+asked-none = none-asked
+
+-- On the card's event, with every lent byte: a request for an AFI, with one slot or sixteen and no mask, reaches a card that is served and not Quiet. It takes part
+-- exactly if Table 1 says so: it answers at once, or starts a sequence; else it is silent, with no sequence.
+a-request-for-a-family : (one : Bool) (asked : ℕ) (c : Card) (memory locks found : List ℕ) → Listens c memory locks found → asked < 256
+    → frameEvent c (calling one asked) memory locks found
+    ≡ cond (familyFits asked (c .afi)) (begun one c memory locks found) (passedOver c memory locks found)
+a-request-for-a-family = family-requested
+
 -- ---- The bench
 
 -- Demand 3 for the bench's row: what a walk that has ended over the cards of given UIDs says of these.
@@ -408,7 +435,7 @@ a-number-is-read = number-of-decimal
 one-number : (text : List ℕ) → isDecimal text ≡ true → 0x30 < getD text 0 0 → decimal (decimalValue text) ≡ text
 one-number = decimal-of-its-number
 
--- ---- The examples of the rules page, under a single statement
+-- ---- The examples of the rules page and of 02, under a single statement
 
 record Examples : Type 0 where
   of-checks : Checks
@@ -416,6 +443,7 @@ record Examples : Type 0 where
   of-cards : CardExamples
   of-walks : Walks
   of-three : FieldOfThree
+  of-families : Families
   of-bench : Bench
 
 examples : Examples
@@ -426,5 +454,6 @@ examples =
       of-cards = card-examples;
       of-walks = walks;
       of-three = field-of-three;
+      of-families = families;
       of-bench = bench;
     }
