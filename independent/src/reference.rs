@@ -3,9 +3,10 @@
 //!
 //! Written from the rules page ("Check and byte order", "Pulse tracks", "The
 //! card", "The walk", "Numbers of refused calls", "Bench", "Examples"), the
-//! change request W1 and the C header. It works on sequences of single bits, digits and intervals, keeps
-//! what waits in sets and looks tracks up in a dictionary, so that it shares no
-//! way of working with the library. Clear, not fast.
+//! change requests W1 and W2, Table 1 of ISO/IEC 15693-3 and the C header. It
+//! works on sequences of single bits, digits, written digits and intervals,
+//! keeps what waits in sets and looks tracks up in a dictionary, so that it
+//! shares no way of working with the library. Clear, not fast.
 
 pub mod bench;
 pub mod card;

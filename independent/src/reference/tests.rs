@@ -1,9 +1,10 @@
-//! The reference against itself: three ways to the same field.
+//! The reference against itself: three ways to the same field. And families.
 
 use std::collections::BTreeSet;
 
 use super::bench::{bench, Verdict};
-use super::card::Card;
+use super::card::{frame, Card, Said::Answer};
+use super::check::sealed;
 use super::field::{card, play};
 use super::tails::{is_complete, rounds};
 use super::walk::{Ending, Walk, PLACES};
@@ -55,6 +56,54 @@ fn worked_example() {
     assert_eq!(bench(&input[..]).unwrap(), text);
     let whole = [&input[..], b"\n"].concat();
     assert_eq!(bench(&whole[..]).unwrap(), text);
+}
+
+/// The AFIs of the cards that take part where this one is asked, with one slot
+/// and with sixteen alike.
+fn called(asked: u8) -> Vec<u8> {
+    let takes_part = |own: &u8| {
+        let [mut one, mut sixteen] = [card(1), card(1)].map(|card| Card { afi: *own, ..card });
+        let send = |card: &mut Card, flags: u8| {
+            let request = sealed(&[flags, 0x01, asked, 0x00]);
+            frame(card, &request, &mut [0], &mut [0], 32).unwrap()
+        };
+        let answers = matches!(send(&mut one, 0x36), Answer(..));
+        send(&mut sixteen, 0x16);
+        assert_eq!(answers, sixteen.sequence.is_some(), "{asked:02X} {own:02X}");
+        answers
+    };
+    (0x00..=0xFF).filter(takes_part).collect()
+}
+
+#[test]
+fn families_by_each_row_of_table_1() {
+    let digits = 0x1..=0xF;
+    assert_eq!(called(0x00), Vec::from_iter(0x00..=0xFF));
+    for x in digits.clone() {
+        assert_eq!(called(16 * x), Vec::from_iter(16 * x..=16 * x + 0xF));
+        assert_eq!(called(x), [x]);
+        for y in digits.clone() {
+            assert_eq!(called(16 * x + y), [16 * x + y]);
+        }
+    }
+}
+
+/// The change request W2.
+#[test]
+fn families_of_the_shops() {
+    let burrs = called(0x30);
+    assert!(burrs.contains(&0x31) && burrs.contains(&0x3F) && !burrs.contains(&0x41));
+    assert_eq!(called(0x03), [0x03]);
+}
+
+#[test]
+fn a_rack_asked_for_its_burrs() {
+    let rack = [(0x11, 0x31), (0x21, 0x32), (0x05, 0x33), (0x15, 0x41)];
+    let mut cards: Vec<Card> = rack.iter().map(|&(uid, afi)| Card { afi, ..card(uid) }).collect();
+    let (mut walk, mut list) = (Walk::start(0x30), vec![0; PLACES]);
+    play(&mut walk, &mut cards, &mut list);
+    assert_eq!((walk.ending, walk.rounds), (Some(Ending::Complete), 2));
+    assert_eq!(list[..walk.listed], [0x05, 0x11, 0x21]);
 }
 
 #[test]

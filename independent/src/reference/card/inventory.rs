@@ -25,7 +25,7 @@ pub fn take_inventory(card: &mut Card, family: bool, one: bool, command: u8, bod
     if mask.len() != length.div_ceil(8) {
         return Silence("inventory, wrong length");
     }
-    if afi != 0 && afi != card.afi {
+    if !calls(afi, card.afi) {
         return Silence("inventory, other family");
     }
     let mask: Vec<bool> = mask.iter().flat_map(|&byte| bits_of(byte)).take(length).collect();
@@ -37,6 +37,18 @@ pub fn take_inventory(card: &mut Card, family: bool, one: bool, command: u8, bod
         Answer("one slot, mask fits", presence(card))
     } else {
         Silence("one slot, mask does not fit")
+    }
+}
+
+/// Whether an asked AFI calls a card of its own: ISO/IEC 15693-3:2009, Table 1,
+/// over the digits as they are written. 00 stands for no AFI too.
+fn calls(asked: u8, own: u8) -> bool {
+    let [asked, own] = [asked, own].map(|afi| format!("{afi:02X}"));
+    match &asked.chars().collect::<Vec<char>>()[..] {
+        ['0', '0'] => true,
+        [family, '0'] => own.starts_with(*family),
+        // X Y and 0 Y.
+        _ => own == asked,
     }
 }
 
