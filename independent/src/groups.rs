@@ -5,6 +5,7 @@ mod checks;
 mod codings;
 mod counts;
 mod damaged_tracks;
+mod families;
 mod fields;
 mod garbage_tracks;
 mod null_buffers;
@@ -33,6 +34,7 @@ pub const GROUPS: &[(&str, Group)] = &[
     ("checks", checks::run),
     ("null buffers", null_buffers::run),
     ("cards", cards::run),
+    ("families", families::run),
     ("walks", walks::run),
     ("fields", fields::run),
     ("reader", reader::exchanges::run),

@@ -9,6 +9,7 @@
 //! Takes a seed, in decimal, or none. VECTORS_DIR names the vectors' folder.
 //! Status 0: no difference. 1: some, or a hole. 2: vectors unreadable.
 
+mod afi;
 mod area;
 mod board;
 mod calls;

@@ -22,6 +22,13 @@ impl Tally {
         }
     }
 
+    /// For a group that compares so many and no other number.
+    pub fn must_have_compared(&mut self, number: u64) {
+        if self.in_group != number {
+            self.hole(&format!("{} compared, not {number}", self.in_group));
+        }
+    }
+
     /// Ends a group. One that compared nothing would be a silent hole.
     pub fn end_group(&mut self, name: &str) {
         println!("{name}: {} compared", self.in_group);

@@ -1,12 +1,18 @@
-//! Counts how often each kind came up. One that never did is a hole.
+//! Counts how often each kind came up. One that never did is a hole, and so is
+//! one that came up less or more often than it must.
 
 use std::collections::BTreeMap;
+use std::ops::RangeInclusive;
 
 use crate::tally::Tally;
 
+type Times = RangeInclusive<u64>;
+const EVER: Times = 1..=u64::MAX;
+
 #[derive(Default)]
 pub struct Counts {
-    rows: BTreeMap<String, u64>,
+    /// How often each came up, and how often it must.
+    rows: BTreeMap<String, (u64, Times)>,
     /// Kinds too many to print; a row tells the rarest of each table.
     cells: BTreeMap<&'static str, BTreeMap<String, u64>>,
 }
@@ -14,7 +20,12 @@ pub struct Counts {
 impl Counts {
     /// A row that must come up.
     pub fn expect(&mut self, row: impl Into<String>) {
-        self.rows.insert(row.into(), 0);
+        self.expect_times(row, EVER);
+    }
+
+    /// A row that must come up so many times.
+    pub fn expect_times(&mut self, row: impl Into<String>, times: Times) {
+        self.rows.insert(row.into(), (0, times));
     }
 
     /// A cell of a table that must come up.
@@ -25,7 +36,7 @@ impl Counts {
     /// One more of a row that is expected.
     pub fn row(&mut self, row: &str) {
         match self.rows.get_mut(row) {
-            Some(count) => *count += 1,
+            Some((count, _)) => *count += 1,
             None => panic!("a kind with no row: {row}"),
         }
     }
@@ -39,18 +50,24 @@ impl Counts {
 
     /// Prints the table.
     pub fn end(&self, tally: &mut Tally, title: &str) {
-        let mut rows: Vec<(u64, String)> =
-            self.rows.iter().map(|(row, count)| (*count, row.clone())).collect();
+        let mut rows: Vec<(u64, String, Times)> = self
+            .rows
+            .iter()
+            .map(|(row, (count, times))| (*count, row.clone(), times.clone()))
+            .collect();
         for (table, cells) in &self.cells {
             let (rarest, count) = cells.iter().min_by_key(|(_, count)| **count).unwrap();
-            rows.push((*count, format!("{table}: rarest of {}, {rarest}", cells.len())));
+            rows.push((*count, format!("{table}: rarest of {}, {rarest}", cells.len()), EVER));
         }
         println!("{title}:");
-        for (count, row) in &rows {
+        for (count, row, _) in &rows {
             println!("{count:>9}  {row}");
         }
-        for (_, row) in rows.iter().filter(|(count, _)| *count == 0) {
-            tally.hole(&format!("never came up: {row}"));
+        for (count, row, _) in rows.iter().filter(|(count, _, times)| !times.contains(count)) {
+            tally.hole(&match count {
+                0 => format!("never came up: {row}"),
+                _ => format!("came up {count} times, too seldom or too often: {row}"),
+            });
         }
     }
 }
