@@ -3,6 +3,7 @@
 
 mod built;
 mod expected;
+mod families;
 
 use crate::calls::Calls;
 use crate::crowds::{shuffle, with_digit, CROWDS};
@@ -39,7 +40,7 @@ fn judge(calls: &mut Calls, counts: &mut Counts, mut field: Built) {
 
 fn any(random: &mut Random) -> Built {
     let limit = random.pick(&[5, 5, 9, 9, 9, 9, 9, 17, 17, 25]);
-    let count = match random.below(60) {
+    let count = match random.below(45) {
         0 => random.below(101),
         1 => random.pick(&[63, 64, 65, 66, 100]),
         _ => random.below(limit),
@@ -60,20 +61,18 @@ fn any(random: &mut Random) -> Built {
         _ => {}
     }
 
-    let afis = [random.byte() | 1, random.byte() & !1, 0];
-    let one_afi = random.once_in(2);
+    let (family, afis) = families::any(random);
+    let one_afi = random.pick(&afis[..2]);
+    let mixed = random.once_in(2);
     let all_ready = random.once_in(2);
     let cards = uids
         .into_iter()
         .map(|uid| {
             let mode = random.pick(&[READY, READY, QUIET, SELECTED]);
-            let afi = if one_afi { afis[0] } else { random.pick(&afis) };
+            let afi = if mixed { random.pick(&afis) } else { one_afi };
             BuiltCard::new(random, uid, if all_ready { READY } else { mode }, afi)
         })
         .collect();
-    let none = NO_FAMILY | random.number() as u16;
-    let asked = random.pick(&afis);
-    let family = random.pick(&[NO_FAMILY, none, none, 0, asked.into(), afis[0].into()]);
     Built::new(random, cards, family)
 }
 

@@ -4,6 +4,8 @@
 use std::collections::BTreeMap;
 
 use super::built::{Built, BuiltCard, NO_FAMILY, QUIET, SELECTED};
+use super::families;
+use crate::afi;
 use crate::groups::counts::Counts;
 use crate::reference::bench::Verdict;
 use crate::reference::tails::{all_differ, is_complete, rounds};
@@ -14,7 +16,7 @@ const TWINS: u8 = 2;
 const FULL: u8 = 3;
 const OVERRUN: u8 = 4;
 
-const KINDS: [&str; 19] = [
+const KINDS: [&str; 18] = [
     "complete, nobody answers",
     "complete, one answers",
     "complete, 2 to 63 answer",
@@ -32,7 +34,6 @@ const KINDS: [&str; 19] = [
     "Selected card answers",
     "card of another family",
     "card of the family asked",
-    "family 00",
     "sequence or held answer before",
 ];
 
@@ -41,12 +42,15 @@ pub fn counts() -> Counts {
     for kind in KINDS {
         counts.expect(kind);
     }
+    for kind in families::KINDS {
+        counts.expect_times(kind, families::OFTEN..=u64::MAX);
+    }
     counts
 }
 
 /// Whether its mode and its family let the card take part.
 fn takes_part(card: &BuiltCard, family: u16) -> bool {
-    card.mode != QUIET && (family >= NO_FAMILY || family == 0 || family == card.afi.into())
+    card.mode != QUIET && afi::calls(family, card.afi)
 }
 
 /// What is wrong after the walk, if anything is.
@@ -120,7 +124,7 @@ fn count_kinds(counts: &mut Counts, field: &Built, answering: &[u64], ending: u8
     let differ = all_differ(answering);
     let all: Vec<u64> = cards.iter().map(|card| card.uid).collect();
     let asked = (1..NO_FAMILY).contains(&family);
-    let of_family = |card: &BuiltCard| family == card.afi.into();
+    let of_family = |card: &BuiltCard| afi::calls(family, card.afi);
     let kinds = [
         complete && many == 0,
         complete && many == 1,
@@ -139,10 +143,12 @@ fn count_kinds(counts: &mut Counts, field: &Built, answering: &[u64], ending: u8
         cards.iter().any(|card| card.mode == SELECTED && takes_part(card, family)),
         asked && cards.iter().any(|card| !of_family(card)),
         asked && cards.iter().any(of_family),
-        family == 0 && cards.iter().any(|card| card.afi != 0),
         cards.iter().any(|card| card.record[22] > 0 || card.record[25] > 0),
     ];
     for (kind, _) in KINDS.iter().zip(kinds).filter(|(_, holds)| *holds) {
+        counts.row(kind);
+    }
+    if let Some(kind) = families::kind(field) {
         counts.row(kind);
     }
 }
