@@ -57,7 +57,7 @@ fn inventory(random: &mut Random, card: &Card) -> Vec<u8> {
     }
     if family {
         message[0] |= 0x10;
-        message.push(random.pick(&[0, card.afi, card.afi, card.afi ^ 1, card.afi ^ 0x80]));
+        message.push(asked(random, card.afi));
     }
     if one {
         message[0] |= 0x20;
@@ -85,6 +85,22 @@ fn inventory(random: &mut Random, card: &Card) -> Vec<u8> {
     // An honest frame has place for no more than this.
     message.truncate(62);
     message
+}
+
+/// The card's AFI, with a digit or both made 0, changed or moved: every row of
+/// Table 1, of a family that calls the card or does not.
+fn asked(random: &mut Random, own: u8) -> u8 {
+    let (high, low) = (own & 0xF0, own & 0x0F);
+    let other = 1 + random.below(15) as u8;
+    let turned = 16 * other;
+    match random.below(6) {
+        0 => 0x00,
+        1 => own,
+        2 => random.pick(&[own ^ other, own ^ turned]),
+        3 => high,
+        4 => random.pick(&[high ^ turned, low << 4]),
+        _ => random.pick(&[low, low ^ other, high >> 4]),
+    }
 }
 
 fn request(random: &mut Random, card: &Card) -> Vec<u8> {

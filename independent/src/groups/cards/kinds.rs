@@ -5,6 +5,7 @@ mod expected;
 use std::collections::BTreeMap;
 
 use super::frames::COMMANDS;
+use crate::afi::row;
 use crate::reference::card::Said;
 use crate::reference::check::is_sound;
 use crate::reference::record::{Event, Tag};
@@ -188,19 +189,15 @@ impl Kinds {
             ("inventory, mask too long", true, 65) => self.row("one slot, 65: too long"),
             _ => {}
         }
+        let asked = if family { row(frame[2]) } else { "none" };
         if why == "inventory, other family" {
-            self.cell("family, slots", format!("other {slots}"), 1);
+            self.cell("family, slots", format!("{asked} not called, {slots}"), 1);
         }
         let fits = ["one slot, mask fits", "slot fits", "other slot"].contains(&why);
         if !fits {
             return;
         }
-        let family = match (family, frame[2]) {
-            (false, _) => "none",
-            (true, 0) => "00",
-            (true, _) => "own",
-        };
-        self.cell("family, slots", format!("{family} {slots}"), 1);
+        self.cell("family, slots", format!("{asked} called, {slots}"), 1);
         let table = if one {
             "fitting mask length, one slot"
         } else {

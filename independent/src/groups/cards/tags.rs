@@ -17,9 +17,8 @@ pub fn any(random: &mut Random) -> Tag {
     }
     record[8..12].copy_from_slice(&(blocks as u32).to_le_bytes());
     record[12..16].copy_from_slice(&(size as u32).to_le_bytes());
-    if random.once_in(4) {
-        record[16] = 0;
-    }
+    // AFIs by every row of Table 1.
+    record[16] &= random.pick(&[0xFF, 0xFF, 0xFF, 0xF0, 0x0F, 0x00]);
     record[18] = random.pick(&[0, 0, 1]);
     record[19] = random.pick(&[0, 0, 1]);
     record[21] = random.pick(&[0, 1, 2]);

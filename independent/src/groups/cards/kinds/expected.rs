@@ -123,8 +123,11 @@ pub fn cells() -> Vec<(&'static str, String)> {
         }
     }
     for slots in ["one", "sixteen"] {
-        for family in ["none", "00", "own", "other"] {
-            cells.push(("family, slots", format!("{family} {slots}")));
+        for family in ["none", "00", "X0", "0Y", "XY"] {
+            cells.push(("family, slots", format!("{family} called, {slots}")));
+        }
+        for family in ["X0", "0Y", "XY"] {
+            cells.push(("family, slots", format!("{family} not called, {slots}")));
         }
     }
     cells
