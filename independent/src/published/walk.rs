@@ -1,14 +1,19 @@
 //! Runs the walk's vectors.
 
 use super::agree;
+use crate::afi;
 use crate::calls::Calls;
 use crate::reference::bench::Verdict;
-use crate::reference::card::Card;
-use crate::reference::field::{card, heard};
+use crate::reference::card::{Card, Said};
+use crate::reference::field::{card, together};
+use crate::reference::record::{self, Event, Tag};
 use crate::reference::walk::record::{read, RECORD};
 use crate::reference::walk::{Heard, Sent, PLACES};
 use crate::reference::Refusal;
 use crate::vectors::walk::{End, WalkStep};
+
+/// The least that a card asks for.
+const CARD_ROOM: usize = 32;
 
 /// A walk's record and its list.
 struct Reader {
@@ -28,19 +33,15 @@ pub fn run_walks(calls: &mut Calls, steps: &[(String, WalkStep)]) {
                 agree(calls, place, said.is_ok(), || format!("{said:?}"));
             }
             WalkStep::End(end) => reader.ended(calls, place, end),
-            WalkStep::Field(uids, end) => {
-                let said = Verdict::of(uids);
+            WalkStep::Field(family, cards, end) => {
+                let called = cards.iter().filter(|(_, own)| afi::calls(*family, *own));
+                let said = Verdict::of(&called.map(|(uid, _)| *uid).collect::<Vec<u64>>());
                 let right =
                     (said.ending, said.rounds, &said.list) == (end.ending, end.rounds, &end.list);
                 agree(calls, place, right, || format!("{said:X?}"));
 
-                let mut cards: Vec<Card> = uids.iter().map(|&uid| card(uid)).collect();
-                reader = Reader::start(calls, u16::MAX);
-                while let Ok(sent @ (Sent::Request(_) | Sent::SlotMark)) = reader.ask(calls) {
-                    if reader.hear(calls, &heard(&mut cards, &sent)).is_err() {
-                        break;
-                    }
-                }
+                reader = Reader::start(calls, *family);
+                reader.play(calls, &mut cards.iter().map(tag).collect::<Vec<Tag>>());
                 reader.ended(calls, place, end);
             }
         }
@@ -68,7 +69,36 @@ impl Reader {
         calls.walk_hear(heard, &mut self.record, &mut self.list)
     }
 
+    /// To the end among cards, with nothing but bytes between.
+    fn play(&mut self, calls: &mut Calls, cards: &mut [Tag]) {
+        while let Ok(sent @ (Sent::Request(_) | Sent::SlotMark)) = self.ask(calls) {
+            let heard = heard(calls, cards, sent);
+            if self.hear(calls, &heard).is_err() {
+                break;
+            }
+        }
+    }
+
     fn ask(&self, calls: &mut Calls) -> Result<Sent, Refusal> {
         calls.walk_ask(&self.record, 14)
     }
+}
+
+/// What the cards say, by the reference and by the board.
+fn heard(calls: &mut Calls, cards: &mut [Tag], sent: Sent) -> Heard {
+    let event = match sent {
+        Sent::Request(request) => Event::Frame(request),
+        _ => Event::Mark,
+    };
+    let reply = |card: &mut Tag| match calls.card(&event, card, CARD_ROOM) {
+        Ok(Said::Answer(_, bytes)) => Some(bytes),
+        _ => None,
+    };
+    together(&cards.iter_mut().filter_map(reply).collect::<Vec<_>>())
+}
+
+fn tag(&(uid, afi): &(u64, u8)) -> Tag {
+    let mut record = vec![0; record::RECORD];
+    record::write(&Card { afi, ..card(uid) }, &mut record);
+    Tag { record, memory: vec![0], locks: vec![0] }
 }

@@ -36,10 +36,14 @@ pub fn play(walk: &mut Walk, cards: &mut [Card], list: &mut [u64]) {
     }
 }
 
-/// One reply is heard whole; more are a clash, also when they are alike.
-pub fn heard(cards: &mut [Card], sent: &Sent) -> Heard {
+fn heard(cards: &mut [Card], sent: &Sent) -> Heard {
     let replies: Vec<Vec<u8>> = cards.iter_mut().filter_map(|card| reply(card, sent)).collect();
-    match &replies[..] {
+    together(&replies)
+}
+
+/// One reply is heard whole; more are a clash, also when they are alike.
+pub fn together(replies: &[Vec<u8>]) -> Heard {
+    match replies {
         [] => Heard::Silence,
         [one] => Heard::Bytes(one.clone()),
         _ => Heard::Clash,

@@ -18,27 +18,38 @@ pub enum WalkStep {
     Start(u16),
     Slot(Sent, Heard),
     End(End),
-    /// A whole walk among these cards.
-    Field(Vec<u64>, End),
+    /// A family and a whole walk among these cards, each a UID and an AFI.
+    Field(u16, Vec<(u64, u8)>, End),
 }
 
 pub fn walks(folder: &Path) -> Result<Vec<(String, WalkStep)>, String> {
     cases(folder, "walk.txt", |place, fields| {
         let step = match fields {
-            ["walk", "none"] => WalkStep::Start(u16::MAX),
-            ["walk", family] => match parse(family)?[..] {
-                [afi] => WalkStep::Start(afi.into()),
-                _ => return Err(format!("no family: {family}")),
-            },
+            ["walk", asked] => WalkStep::Start(family(asked)?),
             ["end", ending, rounds, list] => WalkStep::End(end(ending, rounds, list)?),
-            ["field", cards, ending, rounds, list] => {
-                WalkStep::Field(uids(cards)?, end(ending, rounds, list)?)
+            ["field", asked, cards, ending, rounds, list] => {
+                let end = end(ending, rounds, list)?;
+                WalkStep::Field(family(asked)?, words(cards, card)?, end)
             }
             [sent, heard] => WalkStep::Slot(sending(sent)?, hearing(heard)?),
             _ => return Err("neither a walk, nor a slot, nor an end, nor a field".to_string()),
         };
         Ok((place, step))
     })
+}
+
+fn family(text: &str) -> Result<u16, String> {
+    match text {
+        "none" => Ok(u16::MAX),
+        afi => self::afi(afi).map(u16::from),
+    }
+}
+
+fn afi(text: &str) -> Result<u8, String> {
+    match parse(text)?[..] {
+        [afi] => Ok(afi),
+        _ => Err(format!("no AFI: {text}")),
+    }
 }
 
 fn sending(text: &str) -> Result<Sent, String> {
@@ -68,16 +79,29 @@ fn end(ending: &str, rounds: &str, list: &str) -> Result<End, String> {
         _ => return Err(format!("no ending: {ending}")),
     };
     let rounds = rounds.parse().map_err(|_| format!("no rounds: {rounds}"))?;
-    Ok(End { ending, rounds, list: uids(list)? })
+    Ok(End { ending, rounds, list: words(list, uid)? })
 }
 
-fn uids(text: &str) -> Result<Vec<u64>, String> {
-    let uid = |word: &str| match (word.len(), u64::from_str_radix(word, 16)) {
-        (16, Ok(uid)) => Ok(uid),
-        _ => Err(format!("no UID: {word}")),
-    };
+fn words<Word>(
+    text: &str,
+    read: impl Fn(&str) -> Result<Word, String>,
+) -> Result<Vec<Word>, String> {
     match text {
         "-" => Ok(Vec::new()),
-        _ => text.split_whitespace().map(uid).collect(),
+        _ => text.split_whitespace().map(read).collect(),
+    }
+}
+
+fn card(word: &str) -> Result<(u64, u8), String> {
+    match word.split_once('/') {
+        Some((card, own)) => Ok((uid(card)?, afi(own)?)),
+        None => Ok((uid(word)?, 0x00)),
+    }
+}
+
+fn uid(word: &str) -> Result<u64, String> {
+    match (word.len(), u64::from_str_radix(word, 16)) {
+        (16, Ok(uid)) => Ok(uid),
+        _ => Err(format!("no UID: {word}")),
     }
 }
