@@ -45,7 +45,7 @@ extern "C" {
  * header and archive do not belong together. Refuses nothing.
  */
 #define EK_VERSION_MAJOR 2
-#define EK_VERSION_MINOR 1
+#define EK_VERSION_MINOR 2
 #define EK_VERSION_PATCH 0
 #define EK_VERSION                                                             \
     (65536 * EK_VERSION_MAJOR + 256 * EK_VERSION_MINOR + EK_VERSION_PATCH)
@@ -231,7 +231,9 @@ static inline void ek_put_number(uint8_t *bytes, size_t count, uint64_t number)
  *   EK_CARD_BLOCKS       4 bytes   how many blocks, 1 to EK_CARD_BLOCKS_MAX
  *   EK_CARD_SIZE         4 bytes   how many bytes a block has, 1 to
  *                                  EK_CARD_SIZE_MAX
- *   EK_CARD_AFI          1 byte
+ *   EK_CARD_AFI          1 byte    the AFI: called by itself, by its high
+ *                                  digit with a low 0 (31 by 30, but not 30 by
+ *                                  31), and by 00
  *   EK_CARD_DSFID        1 byte
  *   EK_CARD_AFI_LOCKED   1 byte    0 open, all else locked
  *   EK_CARD_DSFID_LOCKED 1 byte    0 open, all else locked
@@ -248,7 +250,7 @@ static inline void ek_put_number(uint8_t *bytes, size_t count, uint64_t number)
  *
  * With no sequence its slot, mask length and mask are not read. So a new card
  * is a record of zeros with a UID and a shape, as ek_card_new makes it; a field
- * of one byte is then put as in record[EK_CARD_AFI] = 0x30.
+ * of one byte is then put as in record[EK_CARD_AFI] = 0x31.
  *
  * A call that is served writes the next record: a flag as 0 or 1, the mode as
  * one of EK_MODE_.., and with no sequence its four fields as 0. It returns the
@@ -451,7 +453,9 @@ struct ek_walk {
                            there and waits to be opened */
     uint64_t mask;      /* the digits opened so far: the low 4 * level bits */
     uint16_t rounds;    /* the rounds begun, 1 to EK_WALK_ROUNDS_MAX */
-    uint16_t family;    /* 0 to 255: an AFI; all else: no family */
+    uint16_t family;    /* 0 to 255: an AFI, where 0xX0 calls all tags of high
+                           digit X, 0 all tags, any other only its own; all
+                           else: no family, all tags */
     uint8_t level;      /* the digits of the mask, 0 to 15 */
     uint8_t slot;       /* the slot to be heard next, 0 to 15 */
     uint8_t count;      /* the UIDs listed, 0 to EK_LIST_PLACES */
@@ -483,8 +487,10 @@ typedef char ek_walk_has_48_bytes[sizeof(struct ek_walk) == 48 ? 1 : -1];
 #define EK_SEND_MARK 1
 
 /*
- * Starts a walk over whatever stands in the record; it is not looked at.
- * Refuses nothing.
+ * Starts a walk over whatever stands in the record; it is not looked at. A
+ * family 0xX0 with X not 0 calls the tags whose AFI has the high digit X; 0 and
+ * EK_WALK_NO_FAMILY call all tags; any other AFI calls only the tags that have
+ * it. Refuses nothing.
  */
 void ek_walk_start(struct ek_walk *walk, uint16_t family);
 
