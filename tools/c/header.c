@@ -287,7 +287,7 @@ static void sequence(void)
     const uint8_t low = (uint8_t)UID;
     const uint8_t slot = (uint8_t)(UID >> 8) % 16;
     new_card();
-    MUST(SAY(EK_FLAG_INVENTORY | EK_FLAG_AFI, EK_COMMAND_INVENTORY, 0xA0, 8,
+    MUST(SAY(EK_FLAG_INVENTORY | EK_FLAG_AFI, EK_COMMAND_INVENTORY, 0xB0, 8,
              low) == 0);
     MUST(!ek_card_sequence(record)); /* another family */
     MUST(SAY(EK_FLAG_INVENTORY | EK_FLAG_AFI, EK_COMMAND_INVENTORY, 0xAF, 8,
@@ -321,6 +321,45 @@ static void sequence(void)
     record[EK_CARD_SEQUENCE] = 0;
     MUST(mark() == 0);
     MUST(record[EK_CARD_MASK + 7] == 0);
+}
+
+/* Whether a family calls the card, in one slot as in sixteen. */
+static bool calls(unsigned family)
+{
+    const uint8_t afi = (uint8_t)family;
+    int64_t one = SAY(EK_FLAG_INVENTORY | EK_FLAG_AFI | EK_FLAG_ONE_SLOT,
+                      EK_COMMAND_INVENTORY, afi, 0);
+    MUST(one == 0 || one == EK_INVENTORY_ANSWER);
+    MUST(SAY(EK_FLAG_INVENTORY | EK_FLAG_AFI, EK_COMMAND_INVENTORY, afi, 0) ==
+         0);
+    MUST(ek_card_sequence(record) == (one != 0));
+    return one != 0;
+}
+
+/* X0 calls the high digit X, 00 every card, 0Y and XY only themselves; so the
+ * card's own AFI is never taken for a family. */
+static void called(void)
+{
+    new_card();
+    MUST(calls(0xA0) && !calls(0xB0) && !calls(0xF0));
+    MUST(!calls(0x0F) && !calls(0x0A));
+    MUST(calls(0x00));
+    MUST(calls(0xAF) && !calls(0xAE) && !calls(0xBF) && !calls(0xFA));
+    record[EK_CARD_AFI] = 0xA0;
+    MUST(calls(0xA0) && calls(0x00) && !calls(0xAF));
+    record[EK_CARD_AFI] = 0x0F;
+    MUST(calls(0x0F) && calls(0x00) && !calls(0xF0));
+    record[EK_CARD_AFI] = 0x00;
+    MUST(calls(0x00) && !calls(0x0F) && !calls(0xF0));
+    MUST(SAY(EK_FLAG_INVENTORY | EK_FLAG_ONE_SLOT, EK_COMMAND_INVENTORY, 0) ==
+         EK_INVENTORY_ANSWER); /* no family */
+    for (unsigned afi = 0; afi < 256; afi++) {
+        record[EK_CARD_AFI] = (uint8_t)afi;
+        for (unsigned family = 0; family < 256; family++) {
+            bool whole = family % 16 == 0 && family / 16 == afi / 16;
+            MUST(calls(family) == (family == 0 || family == afi || whole));
+        }
+    }
 }
 
 /* Each command by what it does, and each error by a request that earns it. The
@@ -499,6 +538,27 @@ static void fields(void)
     MUST(ask() == EK_SEND_NOTHING);
 }
 
+/* How many UIDs a walk for this family lists where the card is alone. */
+static uint8_t found(uint16_t family)
+{
+    int64_t n;
+    new_card();
+    ek_walk_start(&walk, family);
+    while ((n = ask()) > 0) {
+        n = n == EK_SEND_MARK
+                ? mark()
+                : ek_card_frame(record, EK_CARD_RECORD, request, (size_t)n,
+                                memory, blocks * size, locks, blocks, answer,
+                                sizeof answer);
+        MUST(n == 0 || n == EK_INVENTORY_ANSWER);
+        MUST((n == 0 ? silence()
+                     : ek_walk_hear_bytes(&walk, answer, (size_t)n, list,
+                                          EK_LIST_PLACES)) == 0);
+    }
+    MUST(n == EK_SEND_NOTHING && walk.ending == EK_WALK_COMPLETE);
+    return walk.count;
+}
+
 static void families(void)
 {
     ek_walk_start(&walk, EK_WALK_NO_FAMILY - 1);
@@ -507,6 +567,12 @@ static void families(void)
     MUST(request[2] == 0xFF && request[3] == 0);
     ek_walk_start(&walk, EK_WALK_NO_FAMILY);
     MUST(ask() == 5);
+
+    /* A walk for A0 lists the card of AFI AF, one for B0 does not. */
+    MUST(found(0xA0) == 1 && list[0] == UID);
+    MUST(found(0xAF) == 1 && found(0x00) == 1);
+    MUST(found(EK_WALK_NO_FAMILY) == 1);
+    MUST(found(0xB0) == 0 && found(0xAE) == 0);
 }
 
 /* The longest request, and a clash at its level. */
@@ -934,6 +1000,7 @@ int main(void)
     fresh();
     modes();
     sequence();
+    called();
     commands();
     held();
     reserved();
