@@ -1,6 +1,7 @@
 /*
- * A tag played from C: an inventory round, a block read, a block written with
- * Option, whose answer waits for a slot mark, and what the calls refuse.
+ * A tag played from C: an inventory round, families asked for, a block read, a
+ * block written with Option, whose answer waits for a slot mark, and what the
+ * calls refuse.
  */
 #include <inttypes.h>
 #include <stdio.h>
@@ -86,6 +87,7 @@ static void mark(void)
 static void new_tag(void)
 {
     ek_card_new(record, UID, BLOCKS, SIZE);
+    record[EK_CARD_AFI] = 0x31;
     record[EK_CARD_DSFID] = 0xD5;
     for (size_t i = 0; i < sizeof memory; i++) {
         memory[i] = (uint8_t)i;
@@ -110,6 +112,18 @@ static void inventory(void)
     must(ek_get_number(answer + EK_INVENTORY_UID, 8) == UID &&
              answer[EK_INVENTORY_DSFID] == ek_card_dsfid(record),
          "another tag answered");
+}
+
+/* One slot for a family: the tag is one of 30, as all of 31 to 3F are, and is
+ * silent where 40 is asked for. */
+static void families(void)
+{
+    const uint8_t flags = HIGH_RATE | EK_FLAG_INVENTORY | EK_FLAG_AFI |
+                          EK_FLAG_ONE_SLOT;
+    const uint8_t own[] = {flags, EK_COMMAND_INVENTORY, 0x30, 0};
+    const uint8_t another[] = {flags, EK_COMMAND_INVENTORY, 0x40, 0};
+    send("family", own, sizeof own);
+    send("family", another, sizeof another);
 }
 
 static void read_and_write(void)
@@ -170,6 +184,7 @@ int main(void)
 {
     new_tag();
     inventory();
+    families();
     read_and_write();
     power_off();
     refusals();
