@@ -63,6 +63,7 @@ static const struct row ROWS[] = {
     {"decoder, 1 of 256, 16 bytes", DECODE, EK_ONE_OF_256, 16, {0}},
     {"decoder, 1 of 256, 64 bytes", DECODE, EK_ONE_OF_256, 64, {0}},
     {"card, inventory request", FRAME, 0, 3, {0x06, 0x01, 0x00}},
+    {"card, inventory, family", FRAME, 0, 4, {0x16, 0x01, 0x30, 0x00}},
     {"card, read of a block", FRAME, 0, 3, {0x02, 0x20, 0x03}},
     {"card, read of 32, Option", FRAME, 0, 4, {0x42, 0x23, 0x00, 0x1F}},
     {"card, slot mark", MARK, 0, 0, {0}},
@@ -104,7 +105,8 @@ static void fill_tracks(const struct row *row)
     }
 }
 
-/* Cards in slot 4 of a sequence, which speak in slot 5; a frame ends it. */
+/* Cards of family 30 in slot 4 of a sequence, which speak in slot 5; a frame
+ * ends it. */
 static void fill_cards(void)
 {
     for (size_t f = 0; f < FRAMES; f++) {
@@ -112,6 +114,7 @@ static void fill_cards(void)
         records[f][EK_CARD_UID] = (uint8_t)(16 * f + 5);
         records[f][EK_CARD_BLOCKS] = BLOCKS;
         records[f][EK_CARD_SIZE] = SIZE;
+        records[f][EK_CARD_AFI] = 0x31;
         records[f][EK_CARD_SEQUENCE] = 1;
         records[f][EK_CARD_SLOT] = 4;
         for (size_t i = 0; i < sizeof memories[f]; i++) {

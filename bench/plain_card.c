@@ -133,6 +133,13 @@ static bool fits_slot(const struct card *card)
            (card->uid >> card->mask_length) % 16 == card->slot;
 }
 
+/* X0 calls the whole family of high digit X, 00 every card, any other AFI only
+ * its own. */
+static bool calls(uint8_t asked, uint8_t afi)
+{
+    return asked == 0 || asked == afi || asked == (afi & 0xF0);
+}
+
 static enum reply inventory(struct card *card, const uint8_t *frame,
                             size_t length)
 {
@@ -145,7 +152,7 @@ static enum reply inventory(struct card *card, const uint8_t *frame,
         bits > (one ? 64 : 60) || length != at + 1 + bytes + 2) {
         return SILENCE;
     }
-    if (flags & 0x10 && frame[2] != 0 && frame[2] != card->afi) {
+    if (flags & 0x10 && !calls(frame[2], card->afi)) {
         return SILENCE;
     }
     uint64_t mask = low_bits(number_at(frame + at + 1, bytes), bits);

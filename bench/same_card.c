@@ -58,6 +58,26 @@ static void new_tag(void)
     plain = ours;
 }
 
+/* The card's AFI, 00, the card's with a low digit 0, its own with one digit
+ * changed, or any: by chance alone few cards would be called. */
+static uint8_t draw_family(void)
+{
+    uint8_t afi = ours.record[EK_CARD_AFI];
+    unsigned change = 1 + draw(15);
+    switch (draw(5)) {
+    case 0:
+        return afi;
+    case 1:
+        return 0;
+    case 2:
+        return afi & 0xF0;
+    case 3:
+        return (uint8_t)(afi ^ (draw(2) ? change : change << 4));
+    default:
+        return (uint8_t)draw(256);
+    }
+}
+
 /* A body of the right length for the most part. */
 static size_t draw_frame(uint8_t *frame)
 {
@@ -68,7 +88,7 @@ static size_t draw_frame(uint8_t *frame)
         frame[0] = (uint8_t)(4 | (draw(2) << 4) | (draw(2) << 5));
         frame[1] = 0x01;
         if (frame[0] & 0x10) {
-            frame[n++] = draw(2) ? ours.record[EK_CARD_AFI] : 0;
+            frame[n++] = draw_family();
         }
         frame[n] = (uint8_t)(draw(3) == 0 ? 0 : draw(66));
         body = (frame[n++] + 7u) / 8;
