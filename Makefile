@@ -34,7 +34,7 @@ help:
 	@echo 'make programs   prove and build the programs: $(programs:%=target/bin/%)'
 	@echo 'make lib        prove the library and write $(lib)'
 	@echo 'make inventory  from C: code an inventory request as a pulse track and read it back (make demo-c does the same)'
-	@echo 'make tag        from C: play a tag; inventory, read, write, slot mark'
+	@echo 'make tag        from C: play a tag; inventory, families, read, write, slot mark'
 	@echo 'make walk       from C: walk fields of cards'
 	@echo 'make tools      from C: walk a rack, and show length and wear of each tool in it'
 	@echo 'make install    programs, library, header, pkg-config file and pages below PREFIX ($(PREFIX)); make uninstall takes them away'
