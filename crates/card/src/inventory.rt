@@ -38,7 +38,7 @@ fn total_length(f: Flags, n: u8) -> usize
     length_place(f) + 1 + mask_bytes(n) + 2
 }
 
-// Whether an asked AFI calls a card: a low digit 0 stands for all, and 00 for every card.
+// Whether an asked AFI calls a card. A low digit 0 stands for all low digits, and 00 calls every card.
 fn fits_family(asked: u8, own: u8) -> bool
     ensures { λ r. ⌜ r ≡ fitsFamily asked own ⌝ }
 {

@@ -47,7 +47,7 @@ in-step family room t o h (suc s) g =
     (before .room, (mark-reached family (firstRound family (suc s)) s room t before (omega arith) (omega arith) refl (omega arith) o at, at .room))
 
 -- with no mask the slot is the lowest digit
-pub digit-called : (uid s : ℕ) → s < 16 → fitsSlot uid (maskLength 0) 0 s ≡ eqb (uid % 16) s
+digit-called : (uid s : ℕ) → s < 16 → fitsSlot uid (maskLength 0) 0 s ≡ eqb (uid % 16) s
 unfolding maskLength
 digit-called uid s h =
     let tail : 0 + s * 16 ^ 0 ≡ s = omega arith in

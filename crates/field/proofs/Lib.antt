@@ -39,4 +39,5 @@ pub mod Demand3
 pub mod Rounds
 pub mod Examples
 pub mod Answering
+pub mod Calling
 pub mod Families

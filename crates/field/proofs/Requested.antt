@@ -85,11 +85,14 @@ quiet-listens Ready = refl
 quiet-listens Quiet = refl
 quiet-listens Selected = refl
 
+pub card-answers : (asked : ℕ) → asked < 256 → (c : Card) → (not (isQuiet (c .mode)) && fitsFamily asked (c .afi)) ≡ answers asked c
+unfolding answers familyFits
+card-answers asked h c = rw (quiet-listens (c .mode), lt-leb 256 asked h, fits-table asked (c .afi))
+
 family-answers : (w : Walk) (c : Card) → hasFamily w ≡ true
     → (not (isQuiet (cleared c .mode)) && fitsFamily (w .family) (cleared c .afi)) ≡ answers (w .family) c
-unfolding answers familyFits hasFamily
-family-answers w c e =
-    rw (cleared-mode c, cleared-afi c, quiet-listens (c .mode), lt-leb 256 (w .family) (ltb-true (w .family) 256 e), fits-table (w .family) (c .afi))
+unfolding hasFamily
+family-answers w c e = rw (cleared-mode c, cleared-afi c) (card-answers (w .family) (ltb-true (w .family) 256 e) c)
 
 none-answers : (w : Walk) (c : Card) → hasFamily w ≡ false → (not (isQuiet (cleared c .mode)) && true) ≡ answers (w .family) c
 unfolding answers familyFits hasFamily

@@ -1,23 +1,25 @@
 -- The card's test of an asked AFI is Table 1 of the standard, and who answers, row by row of that table. By the digits asked. Assumes nothing.
-use mathlib.Core.Path.{_≡_, refl, sym, ap, _∙_}
-use mathlib.Core.Bool.{cond, _&&_, _||_, and-true}
-use Prim.Native.Nat.{ℕ, zero, suc, _*_, _/_, _%_, _≤_, _<_}
-use native.Mathlib.Decide.{ℕ-discrete}
+use mathlib.Core.Path.{_≡_, refl, sym, ap₂, _∙_}
+use mathlib.Core.Bool.{true, false, _&&_, and-comm, and-true}
+use Prim.Native.Nat.{ℕ, zero, suc, _+_, _*_, _/_, _%_, _≤_, _<_}
+use native.Mathlib.Nat.{mod-lt}
 use native.Mathlib.Omega.{arith}
 use borrow.Author.Tests.{eq-eqb, ne-eqb, le-leb, lt-leb}
 use lib.Dec.{eqb}
+use Rattle.tails.proofs.Digits.{parts-fit}
 use Rattle.card.specs.declared.Card.{Card}
+use Rattle.card.specs.declared.Mode.the-variants.{Ready, Quiet, Selected}
 use Rattle.card.specs.Inventory.{fitsFamily}
 use Rattle.field.specs.Field.{listens, tableOne, familyFits, answers}
 
--- two bytes are equal if both their digits are
+-- two numbers are equal exactly if their last digits are, and what stands above these
 both-digits : (a b : ℕ) → eqb a b ≡ (eqb (a / 16) (b / 16) && eqb (a % 16) (b % 16))
-both-digits a b = go (ℕ-discrete (a / 16) (b / 16)) (ℕ-discrete (a % 16) (b % 16))
-  where
-    go : Dec (a / 16 ≡ b / 16) → Dec (a % 16 ≡ b % 16) → eqb a b ≡ (eqb (a / 16) (b / 16) && eqb (a % 16) (b % 16))
-    go (yes h) (yes l) = rw (eq-eqb _ _ h, eq-eqb _ _ l, eq-eqb a b (omega (arith, h, l)))
-    go (yes h) (no l) = rw (eq-eqb _ _ h, ne-eqb _ _ l, ne-eqb a b (λ e. l (ap (λ (n : ℕ). n % 16) e)))
-    go (no h) l = rw (ne-eqb _ _ h, ne-eqb a b (λ e. h (ap (λ (n : ℕ). n / 16) e)))
+both-digits a b =
+    let whole-a : a ≡ a % 16 + a / 16 * 16 = omega arith in
+    let whole-b : b ≡ b % 16 + b / 16 * 16 = omega arith in
+    ap₂ eqb whole-a whole-b
+    ∙ parts-fit 16 (a % 16) (a / 16) (b % 16) (b / 16) (mod-lt a (omega arith)) (mod-lt b (omega arith))
+    ∙ and-comm (eqb (a % 16) (b % 16)) (eqb (a / 16) (b / 16))
 
 -- rows X Y and 0 Y: both digits
 low-asked : (x y high low : ℕ) → 1 ≤ y → tableOne x y high low ≡ (eqb x high && eqb y low)
@@ -34,14 +36,17 @@ pub fits-table : (asked own : ℕ) → fitsFamily asked own ≡ tableOne (asked 
 unfolding fitsFamily tableOne
 fits-table asked own = go (asked / 16) (asked % 16) refl refl
   where
-    go : (x y : ℕ) → asked / 16 ≡ x → asked % 16 ≡ y
-        → cond (eqb (asked % 16) 0) (eqb asked 0x00 || eqb (asked / 16) (own / 16)) (eqb asked own)
-        ≡ tableOne (asked / 16) (asked % 16) (own / 16) (own % 16)
+    go : (x y : ℕ) → asked / 16 ≡ x → asked % 16 ≡ y → fitsFamily asked own ≡ tableOne (asked / 16) (asked % 16) (own / 16) (own % 16)
     go zero zero h l = rw (h, l, eq-eqb asked 0 (omega (arith, h, l)))
     go (suc x) zero h l = rw (h, l, ne-eqb asked 0 (λ e. omega (arith, h, e)))
     go x (suc y) h l = rw (ne-eqb (asked % 16) 0 (λ e. omega (arith, l, e))) (sym (other-asked asked own (omega (arith, l))))
 
 -- ---- who answers
+
+-- Ready and Selected listen, Quiet does not
+pub modes-heard : (listens Ready ≡ true) × (listens Selected ≡ true) × (listens Quiet ≡ false)
+unfolding listens
+modes-heard = (refl, refl, refl)
 
 -- no family
 pub none-asked : (family : ℕ) → 256 ≤ family → (c : Card) → answers family c ≡ listens (c .mode)

@@ -36,7 +36,7 @@ module _ (n : ℕ) (mask : List ℕ) (k : length mask ≡ maskBytes n) (few : le
   inventory-sound : isSound (inventory n mask) ≡ true
   inventory-sound = sound-of-short (0x06 ∷ 0x01 ∷ n ∷ mask) (omega arith) (omega arith)
 
-  mask-taken : (rest : List ℕ) → take (min 8 (maskBytes n)) (mask ++ rest) ≡ mask
+  pub mask-taken : (rest : List ℕ) → take (min 8 (maskBytes n)) (mask ++ rest) ≡ mask
   mask-taken rest = take-at mask rest (min 8 (maskBytes n)) (omega (arith, k, few))
 
   inventory-long : suc (suc (suc (length (mask ++ checkBytes (0x06 ∷ 0x01 ∷ n ∷ mask))))) ≡ 3 + maskBytes n + 2

@@ -52,7 +52,7 @@ low-of-equal p a d m s g h e =
     sym (add-mul-mod-self-right a d p ∙ mod-eq-of-lt g) ∙ ap (λ (n : ℕ). n % p) e ∙ add-mul-mod-self-right m s p ∙ mod-eq-of-lt h
 
 -- two numbers are equal exactly if their low parts and their high parts are
-parts-fit : (p a d m s : ℕ) → a < p → m < p → eqb (a + d * p) (m + s * p) ≡ (eqb a m && eqb d s)
+pub parts-fit : (p a d m s : ℕ) → a < p → m < p → eqb (a + d * p) (m + s * p) ≡ (eqb a m && eqb d s)
 parts-fit p a d m s g h = go (ℕ-discrete a m) (ℕ-discrete d s)
   where
     go : Dec (a ≡ m) → Dec (d ≡ s) → eqb (a + d * p) (m + s * p) ≡ (eqb a m && eqb d s)

@@ -2,7 +2,7 @@
 -- The definitions stand in the folders specs/ of the crates, each under the sentence of the rules page that it says. That every function
 -- meets its promise, never leaves what it was lent, and always returns, is what the gate's last line says of the crates themselves.
 use mathlib.Core.Path.{_≡_}
-use mathlib.Core.Bool.{Bool, true, false, cond, _&&_}
+use mathlib.Core.Bool.{true, false, cond, _&&_}
 use mathlib.Core.List.{List, [], _∷_, _++_}
 use Prim.Native.Nat.{ℕ, suc, _+_, _-_, _*_, _/_, _%_, _^_, _≤_, _<_}
 use lib.Dec.{eqb}
@@ -30,6 +30,7 @@ use Rattle.tracks.proofs.Different.{mark-no-track}
 use Rattle.tracks.proofs.Inverse.{decode-of-code, decode-answers}
 use Rattle.tracks.proofs.Examples.{tracks}
 use Rattle.card.specs.declared.Card.{Card}
+use Rattle.card.specs.declared.Mode.the-variants.{Ready, Quiet, Selected}
 use Rattle.card.specs.Record.{cleared}
 use Rattle.card.specs.Frame.{heardInventory}
 use Rattle.record.specs.Fits.{Fits}
@@ -42,7 +43,7 @@ use Rattle.play.specs.Refusal.{refusal, Accepted}
 use Rattle.play.specs.Fits.{DeedFits}
 use Rattle.play.specs.Events.{Outcome, unserved, frameEvent, markEvent, offEvent, AcceptedNext}
 use Rattle.play.specs.Life.{Tag, AcceptedTag, Event, met, tagAfter, lived}
-use Rattle.play.specs.Examples.{Listens, CardExamples}
+use Rattle.play.specs.Examples.{CardExamples}
 use Rattle.play.proofs.Deeds.{decided-fits}
 use Rattle.play.proofs.Outcomes.{frame-refused, mark-refused, off-refused, frame-damaged}
 use Rattle.play.proofs.Stays.{frame-stays, mark-stays, off-stays}
@@ -72,21 +73,22 @@ use Rattle.walk.specs.Record.{maskLength, started, isRunning, complete}
 use Rattle.walk.specs.Hear.{judged}
 use Rattle.walk.specs.Examples.{Walks}
 use Rattle.walk.proofs.Examples.{walks}
-use Rattle.field.specs.Field.{Arrival, Obeys, listens, familyFits, answers, answering}
+use Rattle.field.specs.Field.{Arrival, Obeys, listens, answers, answering}
 use Rattle.field.specs.Played.{playedFor, fresh}
 use Rattle.field.specs.Found.{Found}
 use Rattle.field.specs.Answering.{isHeard, heardOnce}
 use Rattle.field.specs.Replies.{heardAll, Holds, anyReplies}
 use Rattle.field.specs.Demand.{AllObey, Demand3, demand3, roundsCounted, roundsKept}
 use Rattle.field.specs.Examples.{FieldOfThree}
-use Rattle.field.specs.Families.{calling, begun, passedOver, Families}
+use Rattle.field.specs.Families.{Calling, calling, tookPart, passedOver, Families}
 use Rattle.field.proofs.AnyWalk.{judged-fits, walk-of-any-replies}
 use Rattle.tails.specs.Tails.{sharedTails}
 use Rattle.field.proofs.Demand3.{walk-of-a-field, found-rounds}
 use Rattle.field.proofs.Rounds.{rounds-of-a-field, rounds-after-a-field}
 use Rattle.field.proofs.Answering.{card-heard-once}
-use Rattle.field.proofs.TableOne.{none-asked, all-asked, family-asked, only-asked}
-use Rattle.field.proofs.Families.{family-requested, families}
+use Rattle.field.proofs.TableOne.{modes-heard, none-asked, all-asked, family-asked, only-asked}
+use Rattle.field.proofs.Calling.{family-requested}
+use Rattle.field.proofs.Families.{families}
 use Rattle.field.proofs.Examples.{field-of-three}
 use Rattle.row.specs.Row.{cardsOf}
 use Rattle.row.specs.Row as row
@@ -345,8 +347,12 @@ cards-that-answer : (family : ℕ) (room : List ℕ) (t : Tag) → Obeys t → 1
 unfolding heardOnce
 cards-that-answer = card-heard-once
 
--- Which these are, row by row of Table 1 of ISO/IEC 15693-3, for every card and all 256 asked bytes (02, a whole family of tools). Asked 00: all that
--- listen, Ready or Selected.
+-- Which these are, row by row of Table 1 of ISO/IEC 15693-3, for every card and all 256 asked bytes (02, a whole family of tools). Ready and
+-- Selected cards listen, Quiet ones do not.
+who-listens : (listens Ready ≡ true) × (listens Selected ≡ true) × (listens Quiet ≡ false)
+who-listens = modes-heard
+
+-- Asked 00: all that listen.
 asked-00 : (c : Card) → answers 0x00 c ≡ listens (c .mode)
 asked-00 = all-asked
 
@@ -362,11 +368,11 @@ asked-any-other = only-asked
 asked-none : (family : ℕ) → 256 ≤ family → (c : Card) → answers family c ≡ listens (c .mode)
 asked-none = none-asked
 
--- On the card's event, with every lent byte: a request for an AFI, with one slot or sixteen and no mask, reaches a card that is served and not Quiet. It takes part
--- exactly if Table 1 says so: it answers at once, or starts a sequence; else it is silent, with no sequence.
-a-request-for-a-family : (one : Bool) (asked : ℕ) (c : Card) (memory locks found : List ℕ) → Listens c memory locks found → asked < 256
-    → frameEvent c (calling one asked) memory locks found
-    ≡ cond (familyFits asked (c .afi)) (begun one c memory locks found) (passedOver c memory locks found)
+-- On the card's event, with every lent byte: any request that names an AFI, for one slot or sixteen, with any radio bits and any mask (`Calling`), reaches a
+-- card that is served, in any mode. It takes part exactly if it answers that AFI, else it is silent, with no sequence.
+a-request-for-a-family : (q : Calling) (asked : ℕ) (c : Card) (memory locks found : List ℕ) → refusal c (length memory) locks (length found) ≡ 0
+    → asked < 256
+    → frameEvent c (calling q asked) memory locks found ≡ cond (answers asked c) (tookPart q c memory locks found) (passedOver c memory locks found)
 a-request-for-a-family = family-requested
 
 -- ---- The bench
