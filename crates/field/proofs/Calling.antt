@@ -32,7 +32,7 @@ use Rattle.play.specs.Examples.{presents}
 use Rattle.play.proofs.EventWays.{frame-served}
 use Rattle.play.proofs.ExampleRequests.{mask-taken, silence-served, presents-served}
 use Rattle.field.specs.Field.{answers}
-use Rattle.field.specs.Families.{Calling, calling, maskIn, tookPart, passedOver}
+use Rattle.field.specs.Families.{Calling, calling, tookPart, passedOver}
 use Rattle.field.proofs.Requested.{card-answers}
 
 -- ---- slot 0

@@ -31,7 +31,8 @@ listens Ready = true
 listens Quiet = false
 listens Selected = true
 
--- 02, W2: "By ISO/IEC 15693-3, Table 1": its rows, by the two digits asked, 0 0, X 0, X Y and 0 Y; then the card's two
+-- 02, W2: "By ISO/IEC 15693-3, Table 1, an asked AFI with a high digit and a zero low digit matches every card with that high digit; 00 matches all;
+-- any other matches only itself": the table's rows 0 0, X 0, X Y and 0 Y, by the two digits asked; then the card's two
 unfoldable pub tableOne : ℕ → ℕ → ℕ → ℕ → Bool
 tableOne zero zero high low = true
 tableOne (suc x) zero high low = eqb (suc x) high
