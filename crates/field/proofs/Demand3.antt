@@ -17,15 +17,16 @@ use Rattle.walk.specs.declared.Walk.{Walk}
 use Rattle.walk.specs.Marks.{levels}
 use Rattle.walk.specs.Record.{mostRounds, mostSlots, complete, isRunning, started}
 use Rattle.play.specs.Life.{Tag}
-use Rattle.field.specs.Field.{answering}
-use Rattle.field.specs.Played.{Play, playedFor, freshOf, fresh}
+use Rattle.field.specs.Field.{Arrival, arrives, answering}
+use Rattle.field.specs.Played.{Play, playedForBy, playedFor, freshOf, fresh}
 use Rattle.field.specs.Found.{Different, listed, FoundIn, Found}
-use Rattle.field.specs.Demand.{AllObey, cardLeft, cardsLeft, cards, memories, lockBytes, Demand3In, demand3}
+use Rattle.field.specs.Demand.{AllObey, cardLeft, cardsLeft, cards, memories, lockBytes, Demand3In, Demand3, demand3}
 use Rattle.field.proofs.Next.{Suits, Verdict, completes, twin, fills}
 use Rattle.field.proofs.Suited.{uids-suit}
 use Rattle.field.proofs.InTime.{AtSlot, Both, inStep}
 use Rattle.field.proofs.InTime as row
-use Rattle.field.proofs.Stages.{Stage, hears, rests, stage-start, stage-for}
+use Rattle.field.proofs.PlayedSlot.{Brings, arrives-brings}
+use Rattle.field.proofs.Stages.{Stage, hears, rests, stage-start, stage-for-by}
 
 -- ---- what becomes of the cards
 
@@ -121,33 +122,47 @@ ends levels family tags us n p h (rests a r v b) =
       locks-left = locks-of family (p .walk .level) (p .walk .mask) (p .walk .slot) tags (p .tags) b;
     }
 
--- after n slots
-stage-after-in : (levels family : ℕ) (tags : List Tag) (list room : List ℕ) → 1 ≤ levels → Suits levels (answering family tags) → AllObey tags
-    → 64 ≤ length list → 14 ≤ length room → (n : ℕ)
-    → Stage levels family tags (answering family tags) n (playedFor n (freshOf levels family list room tags))
-stage-after-in levels family tags list room least suits obey places fits n =
-    let us : List ℕ = answering family tags in
-    subst (λ (k : ℕ). Stage levels family tags us k (playedFor n (freshOf levels family list room tags))) (zero-add n)
-    (stage-for family tags n 0 (freshOf levels family list room tags) obey suits
+-- any air that brings what some UIDs bring, after n slots
+stage-after-by : (air : List (List ℕ) → Arrival) (us : List ℕ) (levels family : ℕ) (tags : List Tag) (list room : List ℕ) → 1 ≤ levels
+    → Suits levels us → AllObey tags → Brings air us family tags → 64 ≤ length list → 14 ≤ length room → (n : ℕ)
+    → Stage levels family tags us n (playedForBy air n (freshOf levels family list room tags))
+stage-after-by air us levels family tags list room least suits obey brings places fits n =
+    subst (λ (k : ℕ). Stage levels family tags us k (playedForBy air n (freshOf levels family list room tags))) (zero-add n)
+    (stage-for-by air us family tags n 0 (freshOf levels family list room tags) obey brings suits
     (stage-start levels family tags us list room least obey places fits))
 
--- of a fresh walk
+-- 01's air, of a fresh walk
 pub stage-after : (family : ℕ) (tags : List Tag) (list room : List ℕ) → AllObey tags → 64 ≤ length list → 14 ≤ length room → (n : ℕ)
     → Stage levels family tags (answering family tags) n (playedFor n (fresh family list room tags))
 unfolding fresh freshOf started levels
 stage-after family tags list room obey places fits n =
-    stage-after-in levels family tags list room (omega arith) (uids-suit family tags obey) obey places fits n
+    stage-after-by arrives (answering family tags) levels family tags list room (omega arith) (uids-suit family tags obey) obey (arrives-brings family tags obey)
+    places fits n
 
--- a walk of up to sixteen levels, where so many last digits tell the UIDs apart that answer
+-- a walk of up to sixteen levels in any such air, where so many last digits tell the UIDs apart that it brings
+pub walk-of-an-air-in : (air : List (List ℕ) → Arrival) (us : List ℕ) (levels family : ℕ) (tags : List Tag) (list room : List ℕ) → 1 ≤ levels → levels ≤ 16
+    → ToldApart levels us → AllObey tags → Brings air us family tags → 64 ≤ length list → 14 ≤ length room
+    → Demand3In (levels - 1) family tags us (playedForBy air (mostSlots levels) (freshOf levels family list room tags))
+walk-of-an-air-in air us levels family tags list room least most apart obey brings places fits =
+    ends levels family tags us (mostSlots levels) (playedForBy air (mostSlots levels) (freshOf levels family list room tags)) (omega arith)
+    (stage-after-by air us levels family tags list room least (record { most = most; apart = apart }) obey brings places fits (mostSlots levels))
+
+-- a fresh walk in any such air
+pub walk-of-an-air : (air : List (List ℕ) → Arrival) (us : List ℕ) (family : ℕ) (tags : List Tag) (list room : List ℕ) → ToldApart levels us
+    → AllObey tags → Brings air us family tags → 64 ≤ length list → 14 ≤ length room
+    → Demand3 family tags us (playedForBy air (16 * 481) (fresh family list room tags))
+unfolding fresh freshOf started levels mostSlots mostRounds
+walk-of-an-air air us family tags list room apart obey brings places fits =
+    walk-of-an-air-in air us levels family tags list room (omega arith) (omega arith) apart obey brings places fits
+
+-- 01's air
 pub walk-of-a-field-in : (levels family : ℕ) (tags : List Tag) (list room : List ℕ) → 1 ≤ levels → levels ≤ 16
     → ToldApart levels (answering family tags) → AllObey tags → 64 ≤ length list → 14 ≤ length room
     → Demand3In (levels - 1) family tags (answering family tags) (playedFor (mostSlots levels) (freshOf levels family list room tags))
 walk-of-a-field-in levels family tags list room least most apart obey places fits =
-    let suits : Suits levels (answering family tags) = record { most = most; apart = apart } in
-    ends levels family tags (answering family tags) (mostSlots levels) (playedFor (mostSlots levels) (freshOf levels family list room tags)) (omega arith)
-    (stage-after-in levels family tags list room least suits obey places fits (mostSlots levels))
+    walk-of-an-air-in arrives (answering family tags) levels family tags list room least most apart obey (arrives-brings family tags obey) places fits
 
 pub walk-of-a-field : demand3
-unfolding demand3 fresh freshOf started levels mostSlots mostRounds
+unfolding demand3
 walk-of-a-field family tags list room obey places fits =
-    walk-of-a-field-in levels family tags list room (omega arith) (omega arith) (uids-suit family tags obey .apart) obey places fits
+    walk-of-an-air arrives (answering family tags) family tags list room (uids-suit family tags obey .apart) obey (arrives-brings family tags obey) places fits

@@ -8,7 +8,7 @@ use Rattle.walk.specs.declared.Walk.{Walk}
 use Rattle.walk.specs.Record.{isRunning, remade, ended}
 use Rattle.play.specs.Life.{Tag}
 use Rattle.field.specs.Field.{answering}
-use Rattle.field.specs.Played.{Play, slotPlayed, playedFor, fresh}
+use Rattle.field.specs.Played.{Play, slotPlayed, playedForBy, playedFor, fresh}
 use Rattle.field.specs.Demand.{AllObey, roundsCounted, roundsKept}
 use Rattle.field.proofs.Accepted.{walks-accepted, walks-level}
 use Rattle.field.proofs.Next.{Suits, Next, moves, opens, stops}
@@ -50,7 +50,7 @@ slot-rounds family tags n p obey fit (rests a r v row) end = ap (λ (q : Play). 
 
 -- a slot more is played last
 played-last : (n : ℕ) (p : Play) → playedFor (suc n) p ≡ slotPlayed (playedFor n p)
-unfolding playedFor
+unfolding playedForBy
 played-last zero p = refl
 played-last (suc n) p = played-last n (slotPlayed p)
 

@@ -11,8 +11,8 @@ use Rattle.walk.specs.declared.Walk.{Walk}
 use Rattle.walk.specs.Marks.{levels}
 use Rattle.walk.specs.Record.{isRunning, isAccepted, startedOf, started, ended, remade}
 use Rattle.play.specs.Life.{Tag}
-use Rattle.field.specs.Field.{answering}
-use Rattle.field.specs.Played.{Play, slotPlayed, playedFor, freshOf, fresh}
+use Rattle.field.specs.Field.{Arrival, arrives, answering}
+use Rattle.field.specs.Played.{Play, slotPlayedBy, slotPlayed, playedForBy, playedFor, freshOf, fresh}
 use Rattle.field.specs.Demand.{AllObey}
 use Rattle.walk.specs.Hear.{walkAfter}
 use Rattle.walk.proofs.Limits.{is-accepted-of-accepted}
@@ -24,7 +24,16 @@ use Rattle.field.proofs.Called.{called, slotOf}
 use Rattle.field.proofs.Next.{Suits, Verdict, Kept, Next, moves, opens, stops}
 use Rattle.field.proofs.Steps.{slot-next}
 use Rattle.field.proofs.InTime.{AtSlot, Both, Before}
-use Rattle.field.proofs.PlayedSlot.{SlotPlayed, slot-played, ended-played, at-slot-follows, follows-self}
+use Rattle.field.proofs.PlayedSlot.{
+  Brings,
+  SlotPlayedOf,
+  SlotPlayed,
+  slot-played-by,
+  ended-played-by,
+  arrives-brings,
+  at-slot-follows,
+  follows-self,
+}
 
 -- after n slots of a walk p of so many levels over the cards tags, those that answer having the UIDs us
 pub data Stage (levels family : ℕ) (tags : List Tag) (us : List ℕ) (n : ℕ) (p : Play) : Type 0 where
@@ -85,33 +94,48 @@ next-stage {levels} family tags us n w q obey steady level h e f room count row 
 next-stage family tags us n w q obey steady level h e f room count row (stops {x} {t} g k d same verdict) =
     rest-of family tags us (suc n) w x q t d h g k same verdict row
 
--- what a slot leaves of a walk that hears
+module _ (air : List (List ℕ) → Arrival) (us : List ℕ) where
+  -- what a slot leaves of a walk that hears
+  pub slot-leaves-by : {levels : ℕ} (family : ℕ) (tags : List Tag) (p : Play) → Suits levels us
+      → Fixed levels us (p .walk) (p .list) (p .walk .slot) → p .walk .slot < 16 → SlotPlayedOf us family tags p (slotPlayedBy air p)
+      → Next levels us (p .walk) (slotPlayedBy air p .walk) (slotPlayedBy air p .list)
+  slot-leaves-by {levels} family tags p fit g h played =
+      let w : Walk = p .walk in
+      subst (λ (y : Walk). Next levels us w y (slotPlayedBy air p .list)) (sym (played .walk))
+      (subst (λ (l : List ℕ). Next levels us w (walkAfter w (slotOf (called us w))) l) (sym (played .list)) (slot-next us w (p .list) fit h g))
+
+  pub stage-slot-by : {levels : ℕ} (family : ℕ) (tags : List Tag) (n : ℕ) (p : Play) → AllObey tags → Brings air us family tags → Suits levels us
+      → Stage levels family tags us n p → Stage levels family tags us (suc n) (slotPlayedBy air p)
+  stage-slot-by family tags n p obey brings fit (hears g h e f room count row) =
+      let w : Walk = p .walk in
+      let level : w .level < 16 = walks-level w (p .list) (w .slot) (fit .most) (g .walks) in
+      let played : SlotPlayedOf us family tags p (slotPlayedBy air p) =
+      slot-played-by air us family tags p obey brings (walks-accepted w (p .list) (w .slot) h (g .walks)) level (running-of w e) f (g .walks .places-fit) room row
+      in
+      next-stage family tags us n w (slotPlayedBy air p) obey (g .walks .steady) level h e f (rw (played .room) room) count (played .tags)
+      (slot-leaves-by family tags p fit g h played)
+  stage-slot-by {levels} family tags n p obey brings fit (rests a r v row) =
+      subst (λ (q : Play). Stage levels family tags us (suc n) q) (sym (ended-played-by air p a r)) (rests a r v row)
+
+  pub stage-for-by : {levels : ℕ} (family : ℕ) (tags : List Tag) (n m : ℕ) (p : Play) → AllObey tags → Brings air us family tags → Suits levels us
+      → Stage levels family tags us m p → Stage levels family tags us (m + n) (playedForBy air n p)
+  unfolding playedForBy
+  stage-for-by {levels} family tags zero m p obey brings fit s = subst (λ (k : ℕ). Stage levels family tags us k p) (omega arith) s
+  stage-for-by {levels} family tags (suc n) m p obey brings fit s =
+      subst (λ (k : ℕ). Stage levels family tags us k (playedForBy air n (slotPlayedBy air p))) (omega arith)
+      (stage-for-by family tags n (suc m) (slotPlayedBy air p) obey brings fit (stage-slot-by family tags m p obey brings fit s))
+
+-- ---- 01's air
+
 pub slot-leaves : {levels : ℕ} (family : ℕ) (tags : List Tag) (p : Play) → Suits levels (answering family tags)
     → Fixed levels (answering family tags) (p .walk) (p .list) (p .walk .slot) → p .walk .slot < 16 → SlotPlayed family tags p (slotPlayed p)
     → Next levels (answering family tags) (p .walk) (slotPlayed p .walk) (slotPlayed p .list)
-slot-leaves {levels} family tags p fit g h played =
-    let us : List ℕ = answering family tags in
-    let w : Walk = p .walk in
-    subst (λ (y : Walk). Next levels us w y (slotPlayed p .list)) (sym (played .walk))
-    (subst (λ (l : List ℕ). Next levels us w (walkAfter w (slotOf (called us w))) l) (sym (played .list)) (slot-next us w (p .list) fit h g))
+slot-leaves family tags p = slot-leaves-by arrives (answering family tags) family tags p
 
 pub stage-slot : {levels : ℕ} (family : ℕ) (tags : List Tag) (n : ℕ) (p : Play) → AllObey tags → Suits levels (answering family tags)
     → Stage levels family tags (answering family tags) n p → Stage levels family tags (answering family tags) (suc n) (slotPlayed p)
-stage-slot family tags n p obey fit (hears g h e f room count row) =
-    let w : Walk = p .walk in
-    let us : List ℕ = answering family tags in
-    let level : w .level < 16 = walks-level w (p .list) (w .slot) (fit .most) (g .walks) in
-    let played : SlotPlayed family tags p (slotPlayed p) =
-    slot-played family tags p obey (walks-accepted w (p .list) (w .slot) h (g .walks)) level (running-of w e) f (g .walks .places-fit) room row in
-    next-stage family tags us n w (slotPlayed p) obey (g .walks .steady) level h e f (rw (played .room) room) count (played .tags)
-    (slot-leaves family tags p fit g h played)
-stage-slot {levels} family tags n p obey fit (rests a r v row) =
-    subst (λ (q : Play). Stage levels family tags (answering family tags) (suc n) q) (sym (ended-played p a r)) (rests a r v row)
+stage-slot family tags n p obey = stage-slot-by arrives (answering family tags) family tags n p obey (arrives-brings family tags obey)
 
 pub stage-for : {levels : ℕ} (family : ℕ) (tags : List Tag) (n m : ℕ) (p : Play) → AllObey tags → Suits levels (answering family tags)
     → Stage levels family tags (answering family tags) m p → Stage levels family tags (answering family tags) (m + n) (playedFor n p)
-unfolding playedFor
-stage-for {levels} family tags zero m p obey fit s = subst (λ (k : ℕ). Stage levels family tags (answering family tags) k p) (omega arith) s
-stage-for {levels} family tags (suc n) m p obey fit s =
-    subst (λ (k : ℕ). Stage levels family tags (answering family tags) k (playedFor n (slotPlayed p))) (omega arith)
-    (stage-for family tags n (suc m) (slotPlayed p) obey fit (stage-slot family tags m p obey fit s))
+stage-for family tags n m p obey = stage-for-by arrives (answering family tags) family tags n m p obey (arrives-brings family tags obey)

@@ -10,7 +10,7 @@ use Rattle.walk.specs.Record.{isRunning}
 use Rattle.walk.specs.Hear.{walkAfter, listAfter}
 use Rattle.play.specs.Life.{Tag}
 use Rattle.field.specs.Field.{answering}
-use Rattle.field.specs.Played.{Play, slotPlayed, playedFor}
+use Rattle.field.specs.Played.{Play, slotPlayed, playedForBy, playedFor}
 use Rattle.field.specs.Demand.{AllObey}
 use Rattle.field.proofs.Called.{called, slotOf}
 use Rattle.field.proofs.Accepted.{walks-accepted, walks-level}
@@ -62,7 +62,7 @@ slot-stood family tags n p obey most (rests a r v row) = rw (r, ended-played p a
 
 pub played-stood : {levels : ℕ} (family : ℕ) (tags : List Tag) (n m : ℕ) (p : Play) → AllObey tags → Suits levels (answering family tags)
     → Stage levels family tags (answering family tags) m p → standOf (playedFor n p) ≡ stoodFor (answering family tags) n (standOf p)
-unfolding playedFor stoodFor
+unfolding playedForBy stoodFor
 played-stood family tags zero m p obey fit s = refl
 played-stood family tags (suc n) m p obey fit s =
     played-stood family tags n (suc m) (slotPlayed p) obey fit (stage-slot family tags m p obey fit s)

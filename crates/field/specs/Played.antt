@@ -15,17 +15,24 @@ pub record Play : Type 0 where
   pub room : List ℕ
   pub tags : List Tag
 
--- a slot: the walk is asked, what it says is sent, and what arrives is heard
-unfoldable pub slotPlayed : Play → Play
-slotPlayed p =
+-- a slot: the walk is asked, what it says is sent, and what arrives is heard. What arrives of the replies is the air's to say
+unfoldable pub slotPlayedBy : (List (List ℕ) → Arrival) → Play → Play
+slotPlayedBy air p =
     let a : Asking = asking (p .walk) (p .room) in
-    let heard : Arrival = arrives (replies (a .send) (a .room) (p .tags)) in
+    let heard : Arrival = air (replies (a .send) (a .room) (p .tags)) in
     let h : Hearing = hearing (p .walk) (heard .kind) (heard .bytes) (p .list) in
     record { walk = h .walk; list = h .list; room = a .room; tags = tagsAfter (a .send) (a .room) (p .tags) }
 
-unfoldable pub playedFor : ℕ → Play → Play
-playedFor zero p = p
-playedFor (suc n) p = playedFor n (slotPlayed p)
+unfoldable pub playedForBy : (List (List ℕ) → Arrival) → ℕ → Play → Play
+playedForBy air zero p = p
+playedForBy air (suc n) p = playedForBy air n (slotPlayedBy air p)
+
+-- "One reply arrives whole; two or more in a slot arrive as a clash."
+abbrev pub slotPlayed : Play → Play
+slotPlayed p = slotPlayedBy arrives p
+
+abbrev pub playedFor : ℕ → Play → Play
+playedFor n p = playedForBy arrives n p
 
 -- a fresh walk of so many levels
 unfoldable pub freshOf : ℕ → ℕ → List ℕ → List ℕ → List Tag → Play

@@ -60,11 +60,11 @@ module _ (family : ℕ) (tags : List Tag) (obey : AllObey tags) (fit : Suits lev
   us = answering family tags
 
   slot-alike : (m : ℕ) (p : Play) → Stage levels family tags us m p → slotPlayed (benchOf p) ≡ benchOf (field.slotPlayed p)
-  unfolding playedFor field.playedFor
+  unfolding playedFor field.playedForBy
   slot-alike m p s = played-alike family tags 1 m p obey fit s
 
   slot-stands : (m : ℕ) (p : Play) → Stage levels family tags us m p → standOf (field.slotPlayed p) ≡ stood us (standOf p)
-  unfolding field.playedFor stoodFor
+  unfolding field.playedForBy stoodFor
   slot-stands m p s = played-stood family tags 1 m p obey fit s
 
   more-drawn : (n m : ℕ) (p : Play) → Stage levels family tags us m p
@@ -94,7 +94,7 @@ module _ (family : ℕ) (tags : List Tag) (obey : AllObey tags) (fit : Suits lev
 -- ---- for the bench's cards
 
 bench-start : (us : List ℕ) → ((i : ℕ) → getD us i 0 < 2 ^ 64) → record { desk = freshDesk; row = cardsOf us } ≡ benchOf (freshField us)
-unfolding playedFor field.playedFor
+unfolding playedFor field.playedForBy
 bench-start us h = bench-is-a-field us h 0
 
 pub bench-drawn : (us : List ℕ) → ((i : ℕ) → getD us i 0 < 2 ^ 64) → (n : ℕ)

@@ -101,7 +101,7 @@ slots-alike family tags us n p obey (rests a r v row) = rests-alike p a r ∙ sy
 
 pub played-alike : (family : ℕ) (tags : List Tag) (n m : ℕ) (p : Play) → AllObey tags → Suits levels (answering family tags)
     → Stage levels family tags (answering family tags) m p → playedFor n (benchOf p) ≡ benchOf (field.playedFor n p)
-unfolding playedFor field.playedFor
+unfolding playedFor field.playedForBy
 played-alike family tags zero m p obey fit s = refl
 played-alike family tags (suc n) m p obey fit s =
     ap (playedFor n) (slots-alike family tags (answering family tags) m p obey s)
