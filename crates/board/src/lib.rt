@@ -10,6 +10,8 @@ ghost use Rattle.crc.specs.Check.{checkOf};
 ghost use Rattle.frames.specs.Frame.{Seals, isSound};
 ghost use Rattle.tracks.specs.Coder.{Codes};
 ghost use Rattle.tracks.specs.Decoder.{Decodes};
+ghost use Rattle.coil.specs.Coder.{CodesAnswer};
+ghost use Rattle.coil.specs.Decoder.{DecodesAnswer};
 ghost use Rattle.board.specs.Calls.{frameCall, markCall, offCall, Gives};
 ghost use Rattle.board.specs.Steps.{Settles};
 ghost use Rattle.board.specs.Version.{version};
@@ -63,6 +65,20 @@ pub extern "C" fn ek_decode(track: &[u8], frame: &mut [u8]) -> i64
     ensures { λ r. ⌜ Decodes (now (track .entry)) (now (frame .entry)) r (now (frame .exit)) ⌝ }
 {
     tracks::decoder::decode(track, frame)
+}
+
+#[no_mangle]
+pub extern "C" fn ek_coil_code(answer: &[u8], track: &mut [u8]) -> i64
+    ensures { λ r. ⌜ CodesAnswer (now (answer .entry)) (now (track .entry)) r (now (track .exit)) ⌝ }
+{
+    coil::coder::code(answer, track)
+}
+
+#[no_mangle]
+pub extern "C" fn ek_coil_decode(track: &[u8], answer: &mut [u8]) -> i64
+    ensures { λ r. ⌜ DecodesAnswer (now (track .entry)) (now (answer .entry)) r (now (answer .exit)) ⌝ }
+{
+    coil::decoder::decode(track, answer)
 }
 
 // The number that a call gives back. Where it is served, the next record is written.

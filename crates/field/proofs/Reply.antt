@@ -39,6 +39,10 @@ message-uid c h =
     let eight : 8 ≡ length bytes = sym (length-field-bytes 8 (c .uid)) in
     ap (λ (n : ℕ). fieldOf (take n (bytes ++ rest))) eight ∙ ap fieldOf (take-append-seam bytes rest) ∙ field-of-bytes 8 (c .uid) h
 
+pub message-dsfid : (c : Card) → getD (message c) 1 0 ≡ c .dsfid
+unfolding message sealed presence
+message-dsfid c = refl
+
 message-flags : (c : Card) → getD (message c) 0 0 ≡ 0x00
 unfolding message sealed
 message-flags c = refl

@@ -17,6 +17,7 @@ shortest = 4
 unfoldable pub longest : ℕ
 longest = 64
 
+-- 02, W3: "Answers have 3 to 8,451 bytes."
 -- the shortest answer: "It covers all bytes from the flags on and stands last", so that it has flags and check at least
 unfoldable pub shortestAnswer : ℕ
 shortestAnswer = 3

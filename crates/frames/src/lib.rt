@@ -14,7 +14,9 @@ pub const SHORTEST: usize = 4;
 
 pub const LONGEST: usize = 64;
 
-// The longest answer, in bytes.
+// The shortest and the longest answer, in bytes.
+pub const SHORTEST_ANSWER: usize = 3;
+
 pub const LONGEST_ANSWER: usize = 8451;
 
 // Number 8, room short.

@@ -94,6 +94,15 @@ set-placed at s e b h =
     ∙ set-at (take at e ++ s) _ (drop (suc (at + length s)) e) b (at + length s) place
     ∙ rw (past, ← append-assoc, append-snoc)
 
+-- a first byte, the bytes p after it, and a last one at place n
+pub placed-between : (p e : List ℕ) (a z n : ℕ) → n ≡ 1 + length p → n + 1 ≤ length e
+    → set (placed 1 p (set e 0 a)) n z ≡ over (a ∷ p ++ z ∷ []) e
+placed-between p e a z n h room =
+    let first : set e 0 a ≡ placed 0 (a ∷ []) e = sets-placed 0 (a ∷ []) e (omega arith) in
+    let middle : placed 1 p (placed 0 (a ∷ []) e) ≡ placed 0 (a ∷ p) e = placed-placed 0 (a ∷ []) p e (omega arith) in
+    let place : n ≡ 0 + length (a ∷ p) = omega arith in
+    rw (first, middle, place) (set-placed 0 (a ∷ p) e z (omega arith) ∙ placed-start (a ∷ p ++ z ∷ []) e)
+
 -- more bytes over bytes that stand there already
 pub over-over : (s v e : List ℕ) → over (s ++ v) (over s e) ≡ over (s ++ v) e
 unfolding over

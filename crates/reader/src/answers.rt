@@ -13,9 +13,7 @@ use crate::made::has_option;
 use crate::made::is_either;
 use crate::made::is_request;
 use crate::owners;
-
-// The shortest answer: flags and check.
-const SHORTEST_ANSWER: usize = 3;
+use frames::SHORTEST_ANSWER;
 
 fn reads_blocks(request: Request) -> bool
     ensures { λ r. ⌜ r ≡ readsBlocks request ⌝ }

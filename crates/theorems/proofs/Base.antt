@@ -1,4 +1,4 @@
--- Check, frames, text, slots and pulse tracks: the contract of each call asks nothing, says the claim that is written out here, and
+-- Check, frames, text, slots, pulse tracks and the tracks of answers: the contract of each call asks nothing, says the claim that is written out here, and
 -- allows one result. By the contracts themselves. Assumes nothing. a: the arguments. r: what is returned. e: the parameters at exit.
 use mathlib.Core.Path.{_∙_, _≡_, refl, sym}
 use mathlib.Core.List.{[], _∷_}
@@ -24,9 +24,12 @@ use Rattle.hex.specs.Put.{PutsText}
 use Rattle.slots.specs.Fits.{fitsMask, fitsSlot, maskBytes}
 use Rattle.tracks.specs.Coder.{Codes}
 use Rattle.tracks.specs.Decoder.{Decodes}
+use Rattle.coil.specs.Coder.{CodesAnswer}
+use Rattle.coil.specs.Decoder.{DecodesAnswer}
 use Rattle.frames.proofs.Unique.{put-field-unique, seal-unique}
 use Rattle.hex.proofs.Unique.{read-row-unique, put-text-unique}
 use Rattle.tracks.proofs.Unique.{code-unique, decode-unique}
+use Rattle.coil.proofs.Unique.{coil-code-unique, coil-decode-unique}
 use Rattle.crc.proofs.check as crc-check
 use Rattle.crc.proofs.is_sealed as crc-is-sealed
 use Rattle.frames.proofs.Flags.of as frames-flags-of
@@ -54,6 +57,8 @@ use Rattle.slots.proofs.fits_mask as slots-fits-mask
 use Rattle.slots.proofs.fits_slot as slots-fits-slot
 use Rattle.tracks.proofs.coder.code as tracks-code
 use Rattle.tracks.proofs.decoder.decode as tracks-decode
+use Rattle.coil.proofs.coder.code as coil-code
+use Rattle.coil.proofs.decoder.decode as coil-decode
 use Rattle.theorems.specs.Contract.{Contract}
 use Rattle.theorems.proofs.Kept.{kept}
 
@@ -194,3 +199,17 @@ module _ {M : Type 1} (𝓤 : URA M) (H : Heap 𝓤) (A : Atoms 𝓤) (mem : Mem
   tracks-decode-contract =
       kept 𝓤 H A tracks-decode.ended _ _ _ refl (λ κs a. (tt, id⊢ 𝓤 _)) (λ κs a g r e. id⊢ 𝓤 _)
       (λ κs a r s x y p q. let u : _ = decode-unique p q in (u .0, λ i. (tt, (u .1 i, tt))))
+
+  -- ---- coil
+
+  coil-code-contract : Contract 𝓤 H A coil-code.ended (coil-code.spec 𝓤 H A mem run) (coil-code.clauses 𝓤 H A mem run)
+      (λ κs a r e. CodesAnswer (now (a .0)) (now (a .1 .0)) r (now (e .1 .0)))
+  coil-code-contract =
+      kept 𝓤 H A coil-code.ended _ _ _ refl (λ κs a. (tt, id⊢ 𝓤 _)) (λ κs a g r e. id⊢ 𝓤 _)
+      (λ κs a r s x y p q. let u : _ = coil-code-unique p q in (u .0, λ i. (tt, (u .1 i, tt))))
+
+  coil-decode-contract : Contract 𝓤 H A coil-decode.ended (coil-decode.spec 𝓤 H A mem run) (coil-decode.clauses 𝓤 H A mem run)
+      (λ κs a r e. DecodesAnswer (now (a .0)) (now (a .1 .0)) r (now (e .1 .0)))
+  coil-decode-contract =
+      kept 𝓤 H A coil-decode.ended _ _ _ refl (λ κs a. (tt, id⊢ 𝓤 _)) (λ κs a g r e. id⊢ 𝓤 _)
+      (λ κs a r s x y p q. let u : _ = coil-decode-unique p q in (u .0, λ i. (tt, (u .1 i, tt))))

@@ -14,6 +14,8 @@ use Rattle.crc.specs.Check.{checkOf}
 use Rattle.frames.specs.Frame.{Seals, isSound}
 use Rattle.tracks.specs.Coder.{Codes}
 use Rattle.tracks.specs.Decoder.{Decodes}
+use Rattle.coil.specs.Coder.{CodesAnswer}
+use Rattle.coil.specs.Decoder.{DecodesAnswer}
 use Rattle.board.specs.Calls.{Gives, frameCall, markCall, offCall}
 use Rattle.walk.specs.Record.{started}
 use Rattle.walk.specs.Hear.{hearing}
@@ -26,6 +28,7 @@ use Rattle.board.specs.Walked.{AsksInPlace, HearsInPlace}
 use Rattle.walk.specs.Ask.{asking}
 use Rattle.frames.proofs.Unique.{seal-unique}
 use Rattle.tracks.proofs.Unique.{code-unique, decode-unique}
+use Rattle.coil.proofs.Unique.{coil-code-unique, coil-decode-unique}
 use Rattle.board.proofs.Unique.{gives-unique}
 use Rattle.board.proofs.UniqueWalked.{hear-in-place-unique, ask-in-place-unique}
 use Rattle.board.proofs.UniqueAnswers.{read-by-value-unique}
@@ -36,6 +39,8 @@ use Rattle.board.proofs.ek_is_sound as ek-is-sound
 use Rattle.board.proofs.ek_seal as ek-seal
 use Rattle.board.proofs.ek_code as ek-code
 use Rattle.board.proofs.ek_decode as ek-decode
+use Rattle.board.proofs.ek_coil_code as ek-coil-code
+use Rattle.board.proofs.ek_coil_decode as ek-coil-decode
 use Rattle.board.proofs.ek_card_frame as ek-card-frame
 use Rattle.board.proofs.ek_card_mark as ek-card-mark
 use Rattle.board.proofs.ek_card_power_off as ek-card-power-off
@@ -82,6 +87,18 @@ module _ {M : Type 1} (𝓤 : URA M) (H : Heap 𝓤) (A : Atoms 𝓤) (mem : Mem
   ek-decode-contract =
       kept 𝓤 H A ek-decode.ended _ _ _ refl (λ κs a. (tt, id⊢ 𝓤 _)) (λ κs a g r e. id⊢ 𝓤 _)
       (λ κs a r s x y p q. let u : _ = decode-unique p q in (u .0, λ i. (tt, (u .1 i, tt))))
+
+  ek-coil-code-contract : Contract 𝓤 H A ek-coil-code.ended (ek-coil-code.spec 𝓤 H A mem run) (ek-coil-code.clauses 𝓤 H A mem run)
+      (λ κs a r e. CodesAnswer (now (a .0)) (now (a .1 .0)) r (now (e .1 .0)))
+  ek-coil-code-contract =
+      kept 𝓤 H A ek-coil-code.ended _ _ _ refl (λ κs a. (tt, id⊢ 𝓤 _)) (λ κs a g r e. id⊢ 𝓤 _)
+      (λ κs a r s x y p q. let u : _ = coil-code-unique p q in (u .0, λ i. (tt, (u .1 i, tt))))
+
+  ek-coil-decode-contract : Contract 𝓤 H A ek-coil-decode.ended (ek-coil-decode.spec 𝓤 H A mem run) (ek-coil-decode.clauses 𝓤 H A mem run)
+      (λ κs a r e. DecodesAnswer (now (a .0)) (now (a .1 .0)) r (now (e .1 .0)))
+  ek-coil-decode-contract =
+      kept 𝓤 H A ek-coil-decode.ended _ _ _ refl (λ κs a. (tt, id⊢ 𝓤 _)) (λ κs a g r e. id⊢ 𝓤 _)
+      (λ κs a r s x y p q. let u : _ = coil-decode-unique p q in (u .0, λ i. (tt, (u .1 i, tt))))
 
   ek-card-frame-contract : Contract 𝓤 H A ek-card-frame.ended (ek-card-frame.spec 𝓤 H A mem run) (ek-card-frame.clauses 𝓤 H A mem run)
       (λ κs a r e.

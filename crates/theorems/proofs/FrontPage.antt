@@ -15,7 +15,7 @@ use Rattle.crc.specs.Examples.{Checks}
 use Rattle.crc.proofs.Seal.{is-sealed-of-sealed, sealed-of-is-sealed}
 use Rattle.crc.proofs.Examples.{checks}
 use Rattle.frames.specs.Flags.{flagsOf, asksInventory}
-use Rattle.frames.specs.Frame.{shortest, longest, isSound, Sound}
+use Rattle.frames.specs.Frame.{shortest, longest, longestAnswer, isSound, Sound}
 use Rattle.frames.proofs.Sound.{sound-of-sealed, sealed-of-sound}
 use Rattle.hex.specs.Decimal.{decimal, isDecimal, decimalValue}
 use Rattle.hex.specs.Rows.{isRow, rowBytes, rowText}
@@ -29,6 +29,16 @@ use Rattle.tracks.specs.Examples.{Tracks}
 use Rattle.tracks.proofs.Different.{mark-no-track}
 use Rattle.tracks.proofs.Inverse.{decode-of-code, decode-answers}
 use Rattle.tracks.proofs.Examples.{tracks}
+use Rattle.coil.specs.Coder.{CodesAnswer}
+use Rattle.coil.specs.Decoder.{DecodesAnswer}
+use Rattle.coil.specs.Decoder as coil
+use Rattle.coil.specs.Read.{TrackReads}
+use Rattle.coil.specs.Overlay.{Answers, Overlays}
+use Rattle.coil.specs.Examples.{Coil}
+use Rattle.coil.proofs.Back.{answer-of-code}
+use Rattle.coil.proofs.Read as coil-read
+use Rattle.coil.proofs.Overlay.{overlays}
+use Rattle.coil.proofs.Examples as coil-examples
 use Rattle.card.specs.declared.Card.{Card}
 use Rattle.card.specs.declared.Mode.the-variants.{Ready, Quiet, Selected}
 use Rattle.card.specs.Record.{cleared}
@@ -73,8 +83,8 @@ use Rattle.walk.specs.Record.{maskLength, started, isRunning, complete}
 use Rattle.walk.specs.Hear.{judged}
 use Rattle.walk.specs.Examples.{Walks}
 use Rattle.walk.proofs.Examples.{walks}
-use Rattle.field.specs.Field.{Arrival, Obeys, listens, answers, answering}
-use Rattle.field.specs.Played.{playedFor, fresh}
+use Rattle.field.specs.Field.{Arrival, Obeys, arrives, listens, answers, answering}
+use Rattle.field.specs.Played.{playedForBy, playedFor, fresh}
 use Rattle.field.specs.Found.{Found}
 use Rattle.field.specs.Answering.{isHeard, heardOnce}
 use Rattle.field.specs.Replies.{heardAll, Holds, anyReplies}
@@ -90,6 +100,13 @@ use Rattle.field.proofs.TableOne.{modes-heard, none-asked, all-asked, family-as
 use Rattle.field.proofs.Calling.{family-requested}
 use Rattle.field.proofs.Families.{families}
 use Rattle.field.proofs.Examples.{field-of-three}
+use Rattle.chorus.specs.Air.{heardAs, coilAir, heardBy, numberHeard, differentRows, coilArrives}
+use Rattle.chorus.specs.Different.{Said, differentAnswers, uidsOf, Speaks, EachOnce}
+use Rattle.chorus.specs.Demand.{AllMarked, onCoilPlayed, coilDemand3, UnlikeTwins, TwinsMean, coilTwins}
+use Rattle.chorus.proofs.Air.{number-heard, coil-arrives}
+use Rattle.chorus.proofs.Different.{each-once}
+use Rattle.chorus.proofs.Apart.{coil-demand3}
+use Rattle.chorus.proofs.Twins.{coil-twins}
 use Rattle.row.specs.Row.{cardsOf}
 use Rattle.row.specs.Row as row
 use Rattle.row.specs.Play.{freshDesk, ended}
@@ -375,6 +392,56 @@ a-request-for-a-family : (q : Calling) (asked : ℕ) (c : Card) (memory locks fo
     → frameEvent c (calling q asked) memory locks found ≡ cond (answers asked c) (tookPart q c memory locks found) (passedOver c memory locks found)
 a-request-for-a-family = family-requested
 
+-- ---- Answers on the coil (02, replies straight from the coil)
+
+-- Decoding what was coded gives the answer back: wherever the coder of answers tells a length n, the decoder reads the first n bytes that it left, in any
+-- room of 8,451 or more, as that answer, and leaves the bytes past it as found.
+decoding-a-coded-answer : {answer room : List ℕ} {n : ℕ} {track : List ℕ} → CodesAnswer answer room (pos n) track
+    → {found : List ℕ} {r : ℤ} {left : List ℕ} → Bytes answer → longestAnswer ≤ length found → DecodesAnswer (take n track) found r left
+    → (r ≡ coil.told 0 (length answer)) × (left ≡ over answer found)
+decoding-a-coded-answer = answer-of-code
+
+-- What is read of any bytes, with such a room, is one of four (`TrackReads`): an answer, and the bytes are to the byte what the coder makes of it; a clash at
+-- bit k: start, end and length are right, each pair before k is 10 or 01, pair k is 11; a loss at bit k, the same with 00; number 12, and start, end or
+-- length is wrong. In the last three nothing is written.
+what-the-coil-says : (t found : List ℕ) (r : ℤ) (left : List ℕ) → longestAnswer ≤ length found → DecodesAnswer t found r left → Bytes t
+    → TrackReads t found r left
+what-the-coil-says = coil-read.what-is-read
+
+-- Answers laid over each other: identical ones are read as that answer; others of one length as a clash at the first bit in which they are not all alike,
+-- and of any lengths as a clash.
+answers-overlaid : Overlays
+answers-overlaid = overlays
+
+-- So of any answers there arrives on the coil what "One reply arrives whole; two or more in a slot arrive as a clash." makes of the different ones.
+what-arrives-on-the-coil : (rs : List (List ℕ)) → Answers rs → coilAir rs ≡ arrives (differentRows rs)
+unfolding coilArrives
+what-arrives-on-the-coil = coil-arrives
+
+-- What a program tells the walk by the decoder's number, bytes where it is under 131,072 and else a clash, is what was read.
+what-the-walk-is-told : (t found : List ℕ) (r : ℤ) (left : List ℕ) → longestAnswer ≤ length found → DecodesAnswer t found r left
+    → heardBy r left ≡ heardAs (coil.reading t)
+unfolding numberHeard
+what-the-walk-is-told = number-heard
+
+-- Demand 3 on the coil, word for word, of the different answers, pairs of UID and DSFID, of the cards that answer the family: any cards as in demand 3 whose
+-- DSFIDs are bytes. Each slot the answers of all cards that speak are coded, laid over each other and decoded, and the walk hears what comes of it.
+demand-three-on-the-coil : (family : ℕ) (tags : List Tag) (list room : List ℕ) → AllObey tags → AllMarked tags → 64 ≤ length list → 14 ≤ length room
+    → Demand3 family tags (uidsOf (differentAnswers family tags)) (playedForBy coilAir (16 * 481) (fresh family list room tags))
+unfolding coilDemand3 onCoilPlayed
+demand-three-on-the-coil = coil-demand3
+
+-- Each different answer is counted once: one that some card gives that answers the family stands once among them, any other not at all.
+each-answer-once : EachOnce
+each-answer-once = each-once
+
+-- What twins means there: it ends so only if two cards that answer have one UID and different DSFIDs; with at most 64 different answers these always end it so,
+-- and where there are none it ends complete. Cards alike in both do no harm.
+twins-on-the-coil : (family : ℕ) (tags : List Tag) (list room : List ℕ) → AllObey tags → AllMarked tags → 64 ≤ length list → 14 ≤ length room
+    → TwinsMean family tags (playedForBy coilAir (16 * 481) (fresh family list room tags) .walk)
+unfolding coilTwins onCoilPlayed
+twins-on-the-coil = coil-twins
+
 -- ---- The bench
 
 -- Demand 3 for the bench's row: what a walk that has ended over the cards of given UIDs says of these.
@@ -446,6 +513,7 @@ one-number = decimal-of-its-number
 record Examples : Type 0 where
   of-checks : Checks
   of-tracks : Tracks
+  of-coil : Coil
   of-cards : CardExamples
   of-walks : Walks
   of-three : FieldOfThree
@@ -457,6 +525,7 @@ examples =
     record {
       of-checks = checks;
       of-tracks = tracks;
+      of-coil = coil-examples.coil;
       of-cards = card-examples;
       of-walks = walks;
       of-three = field-of-three;

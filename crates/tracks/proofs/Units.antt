@@ -10,8 +10,8 @@ use borrow.Author.Tests.{eq-eqb, ne-eqb}
 use lib.Dec.{eqb}
 use lib.Seq.{length-take-le, take-suc}
 use lib.ListN.{length, getD, take, set, replicate, length-append, length-set, length-replicate, replicate-append-replicate}
-use Rattle.lent.specs.Lent.{over, placed}
-use Rattle.lent.proofs.Over.{sets-placed, set-placed, set-in-placed, placed-placed, placed-start}
+use Rattle.lent.specs.Lent.{placed}
+use Rattle.lent.proofs.Over.{set-placed, set-in-placed, placed-placed}
 use Rattle.tracks.specs.Track.{pattern, quad, blank, long, coded, unit, pulses, trackOf, trackLength}
 
 -- one 00 more
@@ -106,15 +106,6 @@ unit-room coding i n m h room = omega (arith, mul-le-mul-left (unit coding) h)
 
 pub unit-next : (coding i : ℕ) → 1 + unit coding * i + unit coding ≡ 1 + unit coding * (i + 1)
 unit-next coding i = omega arith
-
--- start, units and end
-pub placed-track : (p e : List ℕ) (a z n : ℕ) → n ≡ 1 + length p → n + 1 ≤ length e
-    → set (placed 1 p (set e 0 a)) n z ≡ over (a ∷ p ++ z ∷ []) e
-placed-track p e a z n h room =
-    let first : set e 0 a ≡ placed 0 (a ∷ []) e = sets-placed 0 (a ∷ []) e (omega arith) in
-    let units : placed 1 p (placed 0 (a ∷ []) e) ≡ placed 0 (a ∷ p) e = placed-placed 0 (a ∷ []) p e (omega arith) in
-    let place : n ≡ 0 + length (a ∷ p) = omega arith in
-    rw (first, units, place) (set-placed 0 (a ∷ p) e z (omega arith) ∙ placed-start (a ∷ p ++ z ∷ []) e)
 
 -- the units of n bytes
 pub units-most : (coding n : ℕ) → unit coding * n ≤ 64 * n

@@ -1,14 +1,12 @@
 -- Bytes 00 at the start of a part of a track, counted byte by byte or several at once.
--- By the first byte of what is left; bits put over each other are none only if each has none. Assumes nothing.
+-- By the first byte of what is left. Assumes nothing.
 use mathlib.Core.Path.{_≡_}
 use mathlib.Core.Bool.{Bool, true, false, cond}
 use Prim.Native.Nat.{ℕ, zero, suc, _+_, _-_, _≤_, _<_}
 use native.Mathlib.Nat.{add-zero, zero-add}
-use native.Mathlib.Decide.{ℕ-discrete}
 use native.Mathlib.Omega.{arith}
 use mathlib.Core.List.{List, [], _∷_}
 use borrow.Author.Tests.{eq-eqb, ne-eqb}
-use lib.Bits.{bitOr, or-add-and, and-le-l, and-le-r}
 use lib.Dec.{eqb}
 use lib.ListN.{length, getD, take, drop}
 use lib.Seq.{drop-cons}
@@ -55,22 +53,3 @@ zeros-skip (suc m) t at n i h inside blank =
     let past : i + 1 + m ≡ i + suc m = omega arith in
     let rest = zeros-skip m t at n (i + 1) (omega arith) inside (λ k l. rw (next k) at (blank (suc k) (omega arith))) in
     omega (arith, zeros-more t at n i (omega arith) inside first, rw past at rest)
-
--- n numbers put over each other; what comes to 0 has only 0 in it
-unfoldable pub ors : ℕ → (ℕ → ℕ) → ℕ
-ors zero f = 0
-ors (suc n) f = bitOr (ors n f) (f n)
-
-or-none : (a b : ℕ) → bitOr a b ≡ 0 → (a ≡ 0) × (b ≡ 0)
-or-none a b h = (omega (arith, or-add-and a b, and-le-r a b), omega (arith, or-add-and a b, and-le-l a b))
-
-pub ors-none : (n : ℕ) (f : ℕ → ℕ) → ors n f ≡ 0 → (k : ℕ) → k < n → f k ≡ 0
-unfolding ors
-ors-none zero f h k l = absurd (omega arith)
-ors-none (suc n) f h k l =
-    let both = or-none (ors n f) (f n) h in
-    go (ℕ-discrete k n) (both .1) (ors-none n f (both .0) k)
-  where
-    go : Dec (k ≡ n) → f n ≡ 0 → (k < n → f k ≡ 0) → f k ≡ 0
-    go (yes e) here below = rw e here
-    go (no e) here below = below (omega arith)

@@ -4,7 +4,8 @@ use native.Mathlib.Omega.{arith}
 use lib.ListN.{length-set}
 use Prim.Native.Nat.{_-_}
 use Rattle.tracks.specs.Track.{trackOf}
-use Rattle.tracks.proofs.Units.{placed-track, length-pulses}
+use Rattle.lent.proofs.Over.{placed-between}
+use Rattle.tracks.proofs.Units.{length-pulses}
 use Rattle.tracks.proofs.coder.put_track.Statement.{statement}
 use Rattle.tracks.proofs.coder.put_track.Tie as tie
 
@@ -32,7 +33,7 @@ returns c =
     let put-all = c .before .before .put-all in
     let start-of = c .before .before .before .before .start-of in
     let args = c .before .before .before .before .before .before .before .args in
-    rw (put-all .ensures, start-of .ensures) (placed-track _ _ _ _ (args .n - 1) (omega (
+    rw (put-all .ensures, start-of .ensures) (placed-between _ _ _ _ (args .n - 1) (omega (
       arith,
       length-pulses (args .coding)
           (args .frame .now),

@@ -6,7 +6,7 @@ use Prim.Native.Nat.{_+_, _-_, _≤_}
 use lib.ListN.{getD}
 use borrow.Author.Tests.{eqb-true}
 use native.Mathlib.Numerals.{add-one}
-use Rattle.tracks.proofs.Zeros.{ors, ors-none}
+use Rattle.lent.proofs.Ors.{ors, ors-none}
 use Rattle.tracks.proofs.decoder.eight_blank.Statement.{statement}
 use Rattle.tracks.proofs.decoder.eight_blank.Tie as tie
 

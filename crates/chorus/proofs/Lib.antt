@@ -1,0 +1,4 @@
+pub mod Air
+pub mod Different
+pub mod Apart
+pub mod Twins

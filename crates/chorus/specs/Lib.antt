@@ -1,0 +1,3 @@
+pub mod Air
+pub mod Different
+pub mod Demand

@@ -1,0 +1,1 @@
+// Demand 3 on the coil: definitions and laws, no function.

@@ -1,0 +1,13 @@
+use native.Mathlib.Omega.{arith}
+use Rattle.coil.proofs.Patterns.{turned-half}
+use Rattle.coil.proofs.pulse.half_of.Statement.{statement}
+use Rattle.coil.proofs.pulse.half_of.Tie as tie
+use Rattle.coil.proofs.pulse.half_of.Reads as reads
+use Rattle.coil.proofs.pulse.half_of.Lts as lts
+
+-- src/pulse.rt:10:1
+returns : tie.Need-returns
+returns c = turned-half (c .args .v) (omega arith)
+
+pub half-of-spec : {M : Type 1} → statement M
+half-of-spec = tie.close (tie.spec returns)
