@@ -8,9 +8,9 @@ use mathlib.Core.List.{List, [], _∷_, _++_}
 use lib.ListN.{length, getD, set}
 use Rattle.lent.specs.Lent.{placed}
 use Rattle.lent.proofs.Over.{set-placed}
-use Rattle.coil.specs.Decoder.{pairAt, bitAt, byteAt, bytesFrom}
+use Rattle.coil.specs.Decoder.{bitAt, byteAt, bytesFrom}
 use Rattle.coil.specs.Steps.{fourBits}
-use Rattle.coil.proofs.Flaws.{pairIn, pair-in}
+use Rattle.coil.proofs.Flaws.{pair-in}
 
 pub four-bits-most : (b : ℕ) → fourBits b ≤ 15
 unfolding fourBits

@@ -1,4 +1,6 @@
 -- The ways out of the coder, in 02's order: 7 for an answer too short, 7 for one too long, 8, served. By the tests of its definition. Assumes nothing.
+use mathlib.Core.Path.{_≡_}
+use mathlib.Core.Bool.{true}
 use Prim.Native.Nat.{ℕ, _≤_, _<_}
 use mathlib.Core.List.{List}
 use borrow.Author.Tests.{le-leb, lt-leb}
@@ -24,19 +26,23 @@ module _ (answer found : List ℕ) where
         }
 
     module _ (most : length answer ≤ longestAnswer) where
+      length-fits : isAnswerLength (length answer) ≡ true
+      unfolding isAnswerLength
+      length-fits = rw (le-leb shortestAnswer (length answer) least, le-leb (length answer) longestAnswer most)
+
       pub codes-no-room : length found < answerTrackLength (length answer) → CodesAnswer answer found (refused 8) found
-      unfolding isAnswerLength hasRoom codeAnswer codeLeaves
+      unfolding hasRoom codeAnswer codeLeaves
       codes-no-room h =
           record {
-            tells = rw (le-leb shortestAnswer (length answer) least, le-leb (length answer) longestAnswer most, lt-leb (answerTrackLength (length answer)) (length found) h);
-            leaves = rw (le-leb shortestAnswer (length answer) least, le-leb (length answer) longestAnswer most, lt-leb (answerTrackLength (length answer)) (length found) h);
+            tells = rw (length-fits, lt-leb (answerTrackLength (length answer)) (length found) h);
+            leaves = rw (length-fits, lt-leb (answerTrackLength (length answer)) (length found) h);
           }
 
       pub codes-served : answerTrackLength (length answer) ≤ length found
           → CodesAnswer answer found (pos (answerTrackLength (length answer))) (over (answerTrack answer) found)
-      unfolding isAnswerLength hasRoom codeAnswer codeLeaves
+      unfolding hasRoom codeAnswer codeLeaves
       codes-served h =
           record {
-            tells = rw (le-leb shortestAnswer (length answer) least, le-leb (length answer) longestAnswer most, le-leb (answerTrackLength (length answer)) (length found) h);
-            leaves = rw (le-leb shortestAnswer (length answer) least, le-leb (length answer) longestAnswer most, le-leb (answerTrackLength (length answer)) (length found) h);
+            tells = rw (length-fits, le-leb (answerTrackLength (length answer)) (length found) h);
+            leaves = rw (length-fits, le-leb (answerTrackLength (length answer)) (length found) h);
           }

@@ -5,7 +5,6 @@ use Prim.Native.Nat.{ℕ, _+_, _-_, _*_, _/_, _≤_, _<_}
 use mathlib.Core.List.{List}
 use native.Mathlib.Omega.{arith}
 use borrow.Author.Tests.{eq-eqb, ne-eqb, le-leb, lt-leb, le-ltb, lt-ltb}
-use lib.IntN.{ℤ, pos}
 use lib.ListN.{length}
 use Rattle.lent.specs.Lent.{over, refused}
 use Rattle.frames.specs.Frame.{longestAnswer}

@@ -1,18 +1,16 @@
 -- The examples of answers on the coil: each result by computation and by the ways out, and it is the only one. Assumes nothing.
-use mathlib.Core.Path.{_≡_, refl, ap, _∙_}
+use mathlib.Core.Path.{_≡_, refl, _∙_}
 use mathlib.Core.Bool.{Bool, true, false}
-use Prim.Native.Nat.{ℕ, suc, _+_, _-_, _*_, _/_, _%_, _^_, _≤_, _<_}
+use Prim.Native.Nat.{ℕ, _+_, _-_, _*_, _/_, _%_, _^_, _<_}
 use native.Mathlib.Decide.{decLt}
 use native.Mathlib.Omega.{arith}
 use mathlib.Core.List.{List, [], _∷_}
-use lib.IntN.{ℤ, pos}
 use lib.ListN.{length, getD, drop, List·getD-append, List·getD-eq-default}
-use Rattle.lent.specs.Lent.{over, refused}
+use Rattle.lent.specs.Lent.{over}
 use Rattle.lent.proofs.Bytes.{bytes-none, bytes-cons}
 use Rattle.frames.specs.Frame.{shortestAnswer, longestAnswer}
 use Rattle.coil.specs.Track.{pairOf, half, pulses, answerTrack}
-use Rattle.coil.specs.Coder.{CodesAnswer}
-use Rattle.coil.specs.Decoder.{an-answer, a-clash, a-loss, isFramed, bytesIn, pairAt, told, number, written, DecodesAnswer}
+use Rattle.coil.specs.Decoder.{an-answer, a-clash, a-loss, isFramed, bytesIn, number, written}
 use Rattle.coil.specs.Read.{IsAnswer, Framed}
 use Rattle.coil.specs.Examples.{Coil}
 use Rattle.coil.proofs.Pairs.{length-track, track-byte}

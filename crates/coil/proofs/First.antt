@@ -48,44 +48,6 @@ first-is {test} {i} {n} {k} p = go (decLt f k) (decLt k f)
     go (no h) (yes g) = absurd (false≢true (sym (q .fails k (p .least) g) ∙ p .holds (omega (arith, q .most))))
     go (no h) (no g) = omega arith
 
--- two tests that agree
-pub first-same : (f g : ℕ → Bool) (i n : ℕ) → ((j : ℕ) → i ≤ j → j < i + n → f j ≡ g j) → firstFrom f i n ≡ firstFrom g i n
-first-same f g i n same =
-    let p : First g i n (firstFrom g i n) = first-from g i n in
-    first-is
-    (record {
-      least = p .least;
-      most = p .most;
-      holds = λ h. same (firstFrom g i n) (p .least) h ∙ p .holds h;
-      fails = λ j h l. same j h (omega arith) ∙ p .fails j h l;
-    })
-
 -- a test that fails at each of them
 pub first-none : (test : ℕ → Bool) (i n : ℕ) → ((j : ℕ) → i ≤ j → j < i + n → test j ≡ false) → firstFrom test i n ≡ i + n
 first-none test i n all = first-is (record { least = omega arith; most = omega arith; holds = λ h. absurd (omega arith); fails = all })
-
--- a test that holds at k
-pub first-at-most : (test : ℕ → Bool) (i n k : ℕ) → i ≤ k → test k ≡ true → firstFrom test i n ≤ k
-first-at-most test i n k h e = go (decLt k (firstFrom test i n))
-  where
-    go : Dec (k < firstFrom test i n) → firstFrom test i n ≤ k
-    go (yes g) = absurd (false≢true (sym (first-from test i n .fails k h g) ∙ e))
-    go (no g) = omega arith
-
--- m numbers at which it fails, skipped
-pub first-skip : (test : ℕ → Bool) (i m n : ℕ) → ((j : ℕ) → i ≤ j → j < i + m → test j ≡ false) → firstFrom test i (m + n) ≡ firstFrom test (i + m) n
-first-skip test i m n none =
-    first-is
-    (record {
-      least = omega (arith, p .least);
-      most = omega (arith, p .most);
-      holds = λ h. p .holds (omega arith);
-      fails = λ j h g. before j h g (decLt j (i + m));
-    })
-  where
-    p : First test (i + m) n (firstFrom test (i + m) n)
-    p = first-from test (i + m) n
-
-    before : (j : ℕ) → i ≤ j → j < firstFrom test (i + m) n → Dec (j < i + m) → test j ≡ false
-    before j h g (yes l) = none j h l
-    before j h g (no l) = p .fails j (omega arith) g

@@ -1,5 +1,5 @@
 -- The flaws of a track byte are the bad bits of its place: none where they are 0, else the first that they name. By its four pairs. Assumes nothing.
-use mathlib.Core.Path.{_≡_, refl, sym, ap, _∙_}
+use mathlib.Core.Path.{_≡_, refl, sym, ap}
 use mathlib.Core.Bool.{Bool, true, false, cond, _||_}
 use Prim.Native.Nat.{ℕ, zero, suc, _+_, _-_, _*_, _/_, _%_, _^_, _≤_, _<_}
 use native.Mathlib.Nat.{add-assoc, div-one}
@@ -7,8 +7,8 @@ use native.Mathlib.Decide.{decLe, decLt}
 use native.Mathlib.Omega.{arith}
 use mathlib.Core.List.{List}
 use borrow.Author.Tests.{le-leb, lt-leb}
-use lib.Dec.{leb, eqb}
-use lib.ListN.{length, getD}
+use lib.Dec.{leb}
+use lib.ListN.{getD}
 use Rattle.coil.specs.Decoder.{pairAt, isClash, isLost, isBad, firstFrom}
 use Rattle.coil.specs.Steps.{flaw, flaws, firstOf}
 use Rattle.coil.proofs.First.{first-is}
@@ -102,25 +102,23 @@ module _ (t : List ℕ) (i : ℕ) where
   pub first-flaw : (flaws (getD t (1 + i) 0) ≡ 0 → ⊥) → FirstFlaw (firstOf (flaws (getD t (1 + i) 0)))
   unfolding flaws firstOf
   first-flaw some =
-      let b : ℕ = getD t (1 + i) 0 in
-      let f : ℕ = flaws b in
-      let p : flaw (b / 64 % 4) ≤ 1 = flaw-most (b / 64 % 4) in
-      let q : flaw (b / 16 % 4) ≤ 1 = flaw-most (b / 16 % 4) in
-      let r : flaw (b / 4 % 4) ≤ 1 = flaw-most (b / 4 % 4) in
-      let s : flaw (b % 4) ≤ 1 = flaw-most (b % 4) in
-      go (decLe 64 f) (decLe 16 f) (decLe 4 f) p q r s
+      go (decLe 64 f) (decLe 16 f) (decLe 4 f) (flaw-most (b / 64 % 4)) (flaw-most (b / 16 % 4)) (flaw-most (b / 4 % 4)) (flaw-most (b % 4))
     where
-      f : ℕ
-      f = flaws (getD t (1 + i) 0)
+      b : ℕ
+      b = getD t (1 + i) 0
 
-      go : Dec (64 ≤ f) → Dec (16 ≤ f) → Dec (4 ≤ f) → flaw (getD t (1 + i) 0 / 64 % 4) ≤ 1 → flaw (getD t (1 + i) 0 / 16 % 4) ≤ 1
-          → flaw (getD t (1 + i) 0 / 4 % 4) ≤ 1 → flaw (getD t (1 + i) 0 % 4) ≤ 1 → FirstFlaw (firstOf f)
-      go (yes h) b c p q r s = rw (le-leb 64 f h) (flaw-at 0 (omega arith) (omega arith) (omega arith))
-      go (no h) (yes g) c p q r s = rw (lt-leb 64 f (omega arith), le-leb 16 f g) (flaw-at 1 (omega arith) (omega arith) (omega arith))
+      f : ℕ
+      f = flaws b
+
+      go : Dec (64 ≤ f) → Dec (16 ≤ f) → Dec (4 ≤ f) → flaw (b / 64 % 4) ≤ 1 → flaw (b / 16 % 4) ≤ 1 → flaw (b / 4 % 4) ≤ 1 → flaw (b % 4) ≤ 1
+          → FirstFlaw (firstOf f)
+      go (yes h) c d p q r s = rw (le-leb 64 f h) (flaw-at 0 (omega arith) (omega arith) (omega arith))
+      go (no h) (yes g) d p q r s = rw (lt-leb 64 f (omega arith), le-leb 16 f g) (flaw-at 1 (omega arith) (omega arith) (omega arith))
       go (no h) (no g) (yes k) p q r s =
           rw (lt-leb 64 f (omega arith), lt-leb 16 f (omega arith), le-leb 4 f k) (flaw-at 2 (omega arith) (omega arith) (omega arith))
       go (no h) (no g) (no k) p q r s =
-          rw (lt-leb 64 f (omega arith), lt-leb 16 f (omega arith), lt-leb 4 f (omega arith)) (flaw-at 3 (omega arith) (omega (arith, last-pair (getD t (1 + i) 0))) (omega arith))
+          rw (lt-leb 64 f (omega arith), lt-leb 16 f (omega arith), lt-leb 4 f (omega arith))
+          (flaw-at 3 (omega arith) (omega (arith, last-pair b)) (omega arith))
 
 pub first-of-most : (f : ℕ) → firstOf f ≤ 3
 unfolding firstOf

@@ -1,7 +1,7 @@
 -- A track of bytes with an answer's start, end and length, and good pairs alone, is the track of the answer that is read of it.
 -- Byte by byte: a byte with good pairs is the half that its bits make. Assumes nothing.
 use mathlib.Core.Path.{_≡_, refl, sym, ap, _∙_}
-use mathlib.Core.Bool.{Bool, true, false, cond}
+use mathlib.Core.Bool.{true, cond}
 use Prim.Native.Nat.{ℕ, zero, suc, _+_, _-_, _*_, _/_, _%_, _^_, _≤_, _<_}
 use native.Mathlib.Nat.{zero-add, div-one}
 use native.Mathlib.Decide.{decLt}

@@ -6,13 +6,12 @@ use Prim.Native.Nat.{ℕ, zero, suc, _+_, _-_, _*_, _/_, _%_, _^_, _≤_, _<_}
 use native.Mathlib.Nat.{div-one}
 use native.Mathlib.Numerals.{one-add}
 use native.Mathlib.Omega.{arith}
-use mathlib.Core.List.{List, [], _∷_, _++_}
+use mathlib.Core.List.{List, [], _∷_}
 use borrow.Author.Tests.{eqb-true}
 use lib.Dec.{eqb}
-use lib.ListN.{length, getD, length-append, List·getD-append, List·getD-eq-default}
+use lib.ListN.{length, getD, length-append, List·getD-append}
 use lib.Seq.{getD-at}
 use Rattle.lent.specs.Bytes.{Bytes}
-use Rattle.lent.proofs.Bytes.{bytes-none, bytes-cons, bytes-append}
 use Rattle.lent.proofs.Every.{every, every-at}
 use Rattle.coil.specs.Track.{start, end, bit, pairOf, half, pulses, answerTrack, answerTrackLength}
 use Rattle.coil.specs.Decoder.{pairAt}
@@ -51,20 +50,6 @@ pub good-range : {pair : ℕ} → Good pair → (1 ≤ pair) × (pair ≤ 2)
 good-range zero-bit = (omega arith, omega arith)
 good-range one-bit = (omega arith, omega arith)
 
-half-byte : (v : ℕ) → half v < 256
-unfolding half
-half-byte v = omega (arith, most (v % 2), most (v / 2 % 2), most (v / 4 % 2), most (v / 8 % 2))
-  where
-    most : (b : ℕ) → pairOf b ≤ 2
-    most b = good-range (pair-good b) .1
-
-pulses-bytes : (a : List ℕ) → Bytes (pulses a)
-unfolding pulses
-pulses-bytes [] i = omega arith
-pulses-bytes (v ∷ a) zero = half-byte v
-pulses-bytes (v ∷ a) (suc zero) = half-byte (v / 16)
-pulses-bytes (v ∷ a) (suc (suc i)) = pulses-bytes a i
-
 -- ---- start and end around them
 
 module _ (a : List ℕ) where
@@ -83,15 +68,6 @@ module _ (a : List ℕ) where
   pub track-end : getD (answerTrack a) (1 + 2 * length a) 0 ≡ end
   unfolding answerTrack
   track-end = rw one-add (getD-at (pulses a) end [] 0 (2 * length a) (length-pulses a))
-
-  pub track-past : (i : ℕ) → 2 + 2 * length a ≤ i → getD (answerTrack a) i 0 ≡ 0
-  track-past i h = List·getD-eq-default (answerTrack a) 0 (rw length-track h)
-
-  pub track-bytes : Bytes (answerTrack a)
-  unfolding answerTrack
-  track-bytes =
-      bytes-cons start (pulses a ++ end ∷ []) (omega arith)
-      (bytes-append (pulses a) (end ∷ []) (pulses-bytes a) (bytes-cons end [] (omega arith) bytes-none))
 
 -- ---- pair by pair
 

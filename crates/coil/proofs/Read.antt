@@ -1,6 +1,6 @@
 -- What is read of any bytes: with a room of 8,451 a result that the decoder's promise allows is one of four, each as Read.antt of specs/ tells it.
 -- By the test of start, end and length, and the first bad pair. Assumes nothing.
-use mathlib.Core.Path.{_≡_, refl, sym, ap, _∙_}
+use mathlib.Core.Path.{_≡_, refl, sym, _∙_}
 use mathlib.Core.Bool.{Bool, true, false, false≢true}
 use Prim.Native.Nat.{ℕ, _≤_}
 use mathlib.Core.List.{List}

@@ -101,8 +101,8 @@ use Rattle.field.proofs.Calling.{family-requested}
 use Rattle.field.proofs.Families.{families}
 use Rattle.field.proofs.Examples.{field-of-three}
 use Rattle.chorus.specs.Air.{heardAs, coilAir, heardBy, numberHeard, differentRows, coilArrives}
-use Rattle.chorus.specs.Different.{Said, differentAnswers, uidsOf, Speaks, EachOnce}
-use Rattle.chorus.specs.Demand.{AllMarked, onCoilPlayed, coilDemand3, UnlikeTwins, TwinsMean, coilTwins}
+use Rattle.chorus.specs.Different.{differentAnswers, uidsOf, EachOnce}
+use Rattle.chorus.specs.Demand.{AllMarked, onCoilPlayed, coilDemand3, TwinsMean, coilTwins}
 use Rattle.chorus.proofs.Air.{number-heard, coil-arrives}
 use Rattle.chorus.proofs.Different.{each-once}
 use Rattle.chorus.proofs.Apart.{coil-demand3}

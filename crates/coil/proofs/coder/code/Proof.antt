@@ -1,3 +1,4 @@
+-- `coil::coder::code` meets its contract: the ways out of CodeWays.antt, in order. Assumes nothing.
 use borrow.Author.Needs.{needs}
 use native.Mathlib.Omega.{arith}
 use mir.ValLaws.{toZ-pos}
@@ -8,49 +9,43 @@ use Rattle.frames.specs.Frame.{shortestAnswer, longestAnswer}
 use Rattle.coil.proofs.CodeWays.{codes-too-short, codes-too-long, codes-no-room, codes-served}
 use Rattle.coil.proofs.coder.code.Statement.{statement}
 use Rattle.coil.proofs.coder.code.Tie as tie
-use Rattle.coil.proofs.coder.code.Reads as reads
-use Rattle.coil.proofs.coder.code.Lts as lts
-use Rattle.coil.proofs.coder.put_track.Reads as put-track-reads
 
--- src/coder.rt:45:9
 returns : tie.Need-returns
 unfolding shortestAnswer longestAnswer
 returns c = codes-too-short _ _ (c .if1 .taken)
 
--- src/coder.rt:48:9
 returns-2 : tie.Need-returns-2
 unfolding shortestAnswer longestAnswer
 returns-2 c = codes-too-long _ _ (c .before .if1 .left) (c .if2 .taken)
 
--- src/coder.rt:50:17
 mul-n : tie.Need-mul-n
 mul-n c = search needs
 
--- src/coder.rt:50:13
 add-n : tie.Need-add-n
 add-n c = search needs
 
--- src/coder.rt:52:9
 returns-3 : tie.Need-returns-3
 unfolding shortestAnswer longestAnswer
 returns-3 c = codes-no-room _ _ (c .before .before .if1 .left) (c .before .if2 .left) (c .if3 .taken)
 
--- src/coder.rt:54:5
 put-track-requires : tie.Need-put-track-requires
 put-track-requires c κs = search needs
 
--- src/coder.rt:55:5
 cast-result : tie.Need-cast-result
 cast-result c = search needs
 
--- src/coder.rt:41:1
 same-length : tie.Need-same-length
 same-length c = search needs
 
--- src/coder.rt:41:1
 returns-4 : tie.Need-returns-4
 unfolding shortestAnswer longestAnswer
-returns-4 c = rw (toZ-pos w64 (2 + 2 * length (c .before .before .before .before .before .before .before .before .before .args .answer .now)) (omega arith), c .before .before .put-track .ensures) (codes-served _ _ (c .before .before .before .before .before .before .if1 .left) (c .before .before .before .before .before .if2 .left) (c .before .before .before .before .if3 .left))
+returns-4 c =
+    let args = c .before .before .before .before .before .before .before .before .before .args in
+    let put-track = c .before .before .put-track in
+    let first = c .before .before .before .before .before .before .if1 in
+    let second = c .before .before .before .before .before .if2 in
+    let third = c .before .before .before .before .if3 in
+    rw (toZ-pos w64 (2 + 2 * length (args .answer .now)) (omega arith), put-track .ensures) (codes-served _ _ (first .left) (second .left) (third .left))
 
 pub code-spec : {M : Type 1} → statement M
 code-spec =

@@ -1,3 +1,4 @@
+-- `coil::coder::put_track` meets its contract: start, pairs and end make the track. Assumes nothing.
 use borrow.Author.Needs.{needs}
 use native.Mathlib.Omega.{arith}
 use lib.ListN.{length-set}
@@ -7,34 +8,28 @@ use Rattle.coil.proofs.Pairs.{length-pulses}
 use Rattle.lent.proofs.Over.{placed-between}
 use Rattle.coil.proofs.coder.put_track.Statement.{statement}
 use Rattle.coil.proofs.coder.put_track.Tie as tie
-use Rattle.coil.proofs.coder.put_track.Reads as reads
-use Rattle.coil.proofs.coder.put_track.Lts as lts
-use Rattle.coil.proofs.coder.put_all.Reads as put-all-reads
 
--- src/coder.rt:35:5
 slice-write-track : tie.Need-slice-write-track
 slice-write-track c = search needs
 
--- src/coder.rt:36:5
 put-all-requires : tie.Need-put-all-requires
 put-all-requires c κs = simp length-set (omega arith)
 
--- src/coder.rt:37:11
 sub-track : tie.Need-sub-track
 sub-track c = search needs
 
--- src/coder.rt:37:5
 slice-write-track-2 : tie.Need-slice-write-track-2
 slice-write-track-2 c = omega (arith, simp length-set at (c .before .before .put-all .kept .1 .0))
 
--- src/coder.rt:31:1
 same-length : tie.Need-same-length
 same-length c = simp length-set (simp length-set at (c .before .before .put-all .kept .1 .0))
 
--- src/coder.rt:31:1
 returns : tie.Need-returns
 unfolding answerTrack
-returns c = rw (c .before .before .put-all .ensures) (placed-between _ _ _ _ (c .before .before .before .before .before .before .args .n - 1) (omega (arith, length-pulses (c .before .before .before .before .before .before .args .answer .now))) (omega arith))
+returns c =
+    let put-all = c .before .before .put-all in
+    let args = c .before .before .before .before .before .before .args in
+    rw (put-all .ensures) (placed-between _ _ _ _ (args .n - 1) (omega (arith, length-pulses (args .answer .now))) (omega arith))
 
 pub put-track-spec : {M : Type 1} → statement M
 put-track-spec =

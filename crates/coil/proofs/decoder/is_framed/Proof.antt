@@ -1,3 +1,4 @@
+-- `coil::decoder::is_framed` meets its contract: the definition goes by the same tests. Assumes nothing.
 use borrow.Author.Needs.{needs}
 use mathlib.Core.Path.{refl, sym}
 use mathlib.Core.Bool.{and-assoc}
@@ -7,35 +8,25 @@ use Rattle.frames.specs.Frame.{shortestAnswer, longestAnswer}
 use Rattle.coil.proofs.Framed.{too-short}
 use Rattle.coil.proofs.decoder.is_framed.Statement.{statement}
 use Rattle.coil.proofs.decoder.is_framed.Tie as tie
-use Rattle.coil.proofs.decoder.is_framed.Reads as reads
-use Rattle.coil.proofs.decoder.is_framed.Lts as lts
-use Rattle.frames.proofs.byte_at.Reads as byte-at-reads
 
--- src/decoder.rt:23:9
 returns : tie.Need-returns
 returns c = sym (too-short (c .before .before .args .track .now) (c .if1 .taken))
 
--- src/decoder.rt:26:15
 mul-result : tie.Need-mul-result
 mul-result c = search needs
 
--- src/decoder.rt:26:11
 add-result : tie.Need-add-result
 add-result c = search needs
 
--- src/decoder.rt:29:12
 byte-at-requires : tie.Need-byte-at-requires
 byte-at-requires c κs = search needs
 
--- src/decoder.rt:30:35
 sub-byte-at : tie.Need-sub-byte-at
 sub-byte-at c = search needs
 
--- src/decoder.rt:30:12
 byte-at-requires-2 : tie.Need-byte-at-requires-2
 byte-at-requires-2 c κs = search needs
 
--- src/decoder.rt:18:1
 returns-2 : tie.Need-returns-2
 unfolding bytesIn isFramed isAnswerLength shortestAnswer longestAnswer
 returns-2 c = rw (c .before .byte-at .ensures, c .byte-at2 .ensures) (simp and-assoc refl)

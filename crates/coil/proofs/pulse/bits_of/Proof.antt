@@ -1,11 +1,9 @@
+-- `coil::pulse::bits_of` meets its contract: shifts and masks gather four bits. Assumes nothing.
 use native.Mathlib.Omega.{arith}
 use Rattle.coil.proofs.Patterns.{gathered-bits}
 use Rattle.coil.proofs.pulse.bits_of.Statement.{statement}
 use Rattle.coil.proofs.pulse.bits_of.Tie as tie
-use Rattle.coil.proofs.pulse.bits_of.Reads as reads
-use Rattle.coil.proofs.pulse.bits_of.Lts as lts
 
--- src/pulse.rt:18:1
 returns : tie.Need-returns
 returns c = gathered-bits (c .args .b) (omega arith)
 

@@ -1,26 +1,21 @@
+-- `coil::pulse::first_of` meets its contract: the definition goes by the same three tests. Assumes nothing.
 use borrow.Author.Tests.{le-leb, lt-leb}
 use Rattle.coil.specs.Steps.{firstOf}
 use Rattle.coil.proofs.pulse.first_of.Statement.{statement}
 use Rattle.coil.proofs.pulse.first_of.Tie as tie
-use Rattle.coil.proofs.pulse.first_of.Reads as reads
-use Rattle.coil.proofs.pulse.first_of.Lts as lts
 
--- src/pulse.rt:36:9
 returns : tie.Need-returns
 unfolding firstOf
 returns c = rw (le-leb 64 _ (c .if1 .taken))
 
--- src/pulse.rt:39:9
 returns-2 : tie.Need-returns-2
 unfolding firstOf
 returns-2 c = rw (lt-leb 64 _ (c .before .if1 .left), le-leb 16 _ (c .if2 .taken))
 
--- src/pulse.rt:42:9
 returns-3 : tie.Need-returns-3
 unfolding firstOf
 returns-3 c = rw (lt-leb 64 _ (c .before .before .if1 .left), lt-leb 16 _ (c .before .if2 .left), le-leb 4 _ (c .if3 .taken))
 
--- src/pulse.rt:32:1
 returns-4 : tie.Need-returns-4
 unfolding firstOf
 returns-4 c = rw (lt-leb 64 _ (c .before .before .if1 .left), lt-leb 16 _ (c .before .if2 .left), lt-leb 4 _ (c .if3 .left))

@@ -1,11 +1,9 @@
+-- `coil::pulse::half_of` meets its contract: shifts and masks make the four pairs. Assumes nothing.
 use native.Mathlib.Omega.{arith}
 use Rattle.coil.proofs.Patterns.{turned-half}
 use Rattle.coil.proofs.pulse.half_of.Statement.{statement}
 use Rattle.coil.proofs.pulse.half_of.Tie as tie
-use Rattle.coil.proofs.pulse.half_of.Reads as reads
-use Rattle.coil.proofs.pulse.half_of.Lts as lts
 
--- src/pulse.rt:10:1
 returns : tie.Need-returns
 returns c = turned-half (c .args .v) (omega arith)
 
