@@ -120,9 +120,9 @@ many-rows a (r ∷ rs) h = go (sameBytes a r) (isRepeated a rs) refl refl (many-
     go false false e f later = clash-before a r rs
 
 -- whether all are alike
-all-alike : (a : List ℕ) (rs : List (List ℕ)) → Dec (AllAre a rs)
-all-alike a [] = yes none
-all-alike a (r ∷ rs) = go (List-discrete ℕ-discrete r a) (all-alike a rs)
+are-all : (a : List ℕ) (rs : List (List ℕ)) → Dec (AllAre a rs)
+are-all a [] = yes none
+are-all a (r ∷ rs) = go (List-discrete ℕ-discrete r a) (are-all a rs)
   where
     head : {r : List ℕ} {rs : List (List ℕ)} → AllAre a (r ∷ rs) → r ≡ a
     head (more e all) = e
@@ -138,7 +138,7 @@ all-alike a (r ∷ rs) = go (List-discrete ℕ-discrete r a) (all-alike a rs)
 pub coil-arrives : coilArrives
 unfolding coilArrives coilAir heardAs arrives differentRows
 coil-arrives [] none = refl
-coil-arrives (r ∷ rs) (more answer rest) = go (all-alike r rs)
+coil-arrives (r ∷ rs) (more answer rest) = go (are-all r rs)
   where
     go : Dec (AllAre r rs) → heardAs (reading (onCoil (r ∷ rs))) ≡ arrives (differentRows (r ∷ rs))
     go (yes all) = rw (overlays .identical r rs answer all, one-row r rs all)

@@ -34,7 +34,7 @@ use Rattle.field.proofs.Suited.{uids-suit}
 use Rattle.field.proofs.Demand3.{walk-of-an-air}
 use Rattle.chorus.specs.Air.{coilAir, sameBytes, isRepeated, differentRows, coilArrives}
 use Rattle.chorus.specs.Different.{Said, said, alike, saidBy, isAmong, distinct, differentAnswers, uidsOf}
-use Rattle.chorus.specs.Demand.{AllMarked, none, more, onCoilPlayed, coilDemand3}
+use Rattle.chorus.specs.Demand.{DsfidsFit, none, more, onCoilPlayed, coilDemand3}
 use Rattle.chorus.proofs.Air.{same-self, same-true, coil-arrives}
 use Rattle.chorus.proofs.Different.{saying, alike-self, alike-true}
 
@@ -150,7 +150,7 @@ message-answer c h =
       most = omega (arith, length-message c);
     }
 
-callers-answer : (family : ℕ) (w : Walk) (ts : List Tag) → AllMarked ts → Answers (messages (callers family w ts))
+callers-answer : (family : ℕ) (w : Walk) (ts : List Tag) → DsfidsFit ts → Answers (messages (callers family w ts))
 unfolding callers messages
 callers-answer family w [] none = coil.none
 callers-answer family w (t ∷ ts) (more h hs) = go (calls family w (t .card)) (callers-answer family w ts hs)
@@ -161,7 +161,7 @@ callers-answer family w (t ∷ ts) (more h hs) = go (calls family w (t .card)) (
 
 -- ---- demand 3
 
-coil-brings : (family : ℕ) (tags : List Tag) → AllObey tags → AllMarked tags
+coil-brings : (family : ℕ) (tags : List Tag) → AllObey tags → DsfidsFit tags
     → Brings coilAir (uidsOf (differentAnswers family tags)) family tags
 unfolding coilArrives
 coil-brings family tags obey marked w same accepted =

@@ -29,12 +29,13 @@ heardAs (a-clash k) = clash
 heardAs (a-loss k) = clash
 heardAs no-track = clash
 
--- the coil as an air: where no card answers the slot is silent; else all answers are coded, laid over each other and decoded
+-- the coil as an air: where no card answers there are no pulses, and the slot is silent; else all answers are coded, laid over each other and decoded
 unfoldable pub coilAir : List (List ℕ) → Arrival
 coilAir [] = silence
 coilAir (r ∷ rs) = heardAs (reading (onCoil (r ∷ rs)))
 
--- ---- the same by the decoder's number, as a C program has it: under 131,072 it is an answer's length, and all else is told as a clash
+-- ---- the same by the decoder's number, as a C program has it: from 0 to 131,071 it is an answer's length; all else, refusals too, is told as a clash. A slot
+-- without pulses is told as silent: there is no track to decode
 
 unfoldable pub heardBy : ℤ → List ℕ → Arrival
 heardBy (pos n) left = cond (ltb n 131072) (whole (take n left)) clash

@@ -13,9 +13,9 @@ use Rattle.chorus.specs.Air.{coilAir}
 use Rattle.chorus.specs.Different.{differentAnswers, uidsOf, Speaks}
 
 -- every card's DSFID is a byte
-pub data AllMarked : List Tag → Type 0 where
-  none : AllMarked []
-  more : {t : Tag} {ts : List Tag} → t .card .dsfid < 256 → AllMarked ts → AllMarked (t ∷ ts)
+pub data DsfidsFit : List Tag → Type 0 where
+  none : DsfidsFit []
+  more : {t : Tag} {ts : List Tag} → t .card .dsfid < 256 → DsfidsFit ts → DsfidsFit (t ∷ ts)
 
 -- a fresh walk of a family over cards on the coil, at its end
 unfoldable pub onCoilPlayed : ℕ → List ℕ → List ℕ → List Tag → Play
@@ -24,7 +24,7 @@ onCoilPlayed family list room tags = playedForBy coilAir (16 * 481) (fresh famil
 -- demand 3 word for word, of the UIDs of the different answers
 unfoldable pub coilDemand3 : Type 0
 coilDemand3 =
-    (family : ℕ) (tags : List Tag) (list room : List ℕ) → AllObey tags → AllMarked tags → 64 ≤ length list → 14 ≤ length room
+    (family : ℕ) (tags : List Tag) (list room : List ℕ) → AllObey tags → DsfidsFit tags → 64 ≤ length list → 14 ≤ length room
     → Demand3 family tags (uidsOf (differentAnswers family tags)) (onCoilPlayed family list room tags)
 
 -- "twins means alike UID with another DSFID": two cards that answer say one UID and different DSFIDs
@@ -46,5 +46,5 @@ pub record TwinsMean (family : ℕ) (tags : List Tag) (w : Walk) : Type 0 where
 
 unfoldable pub coilTwins : Type 0
 coilTwins =
-    (family : ℕ) (tags : List Tag) (list room : List ℕ) → AllObey tags → AllMarked tags → 64 ≤ length list → 14 ≤ length room
+    (family : ℕ) (tags : List Tag) (list room : List ℕ) → AllObey tags → DsfidsFit tags → 64 ≤ length list → 14 ≤ length room
     → TwinsMean family tags (onCoilPlayed family list room tags .walk)

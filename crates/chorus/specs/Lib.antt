@@ -1,3 +1,4 @@
 pub mod Air
 pub mod Different
 pub mod Demand
+pub mod Examples

@@ -1,7 +1,7 @@
--- What was coded is read back: the decoder's call on what the coder's call left. By the coder's ways out, and because a result is the only one.
--- Assumes nothing.
+-- Every answer is coded, and what was coded is read back: the decoder's call on what the coder's call left. By the coder's ways out, and because a result is
+-- the only one. Assumes nothing.
 use mathlib.Core.Path.{_≡_, ap}
-use Prim.Native.Nat.{ℕ, _≤_}
+use Prim.Native.Nat.{ℕ, _+_, _*_, _≤_}
 use native.Mathlib.Omega.{arith}
 use native.Mathlib.Decide.{decLe}
 use mathlib.Core.List.{List}
@@ -13,13 +13,19 @@ use Rattle.lent.proofs.Over.{take-over}
 use Rattle.frames.specs.Frame.{shortestAnswer, longestAnswer}
 use Rattle.coil.specs.Track.{answerTrack, answerTrackLength}
 use Rattle.coil.specs.Coder.{CodesAnswer}
-use Rattle.coil.specs.Decoder.{an-answer, told, number, written, DecodesAnswer}
+use Rattle.coil.specs.Decoder.{DecodesAnswer}
 use Rattle.coil.specs.Read.{IsAnswer}
 use Rattle.coil.proofs.Pairs.{length-track}
 use Rattle.coil.proofs.RoundTrip.{reading-of-track}
 use Rattle.coil.proofs.CodeWays.{codes-too-short, codes-too-long, codes-no-room, codes-served}
-use Rattle.coil.proofs.DecodeWays.{decodes-reading}
-use Rattle.coil.proofs.Unique.{coil-code-unique, coil-decode-unique}
+use Rattle.coil.proofs.Read.{what-is-told}
+use Rattle.coil.proofs.Unique.{coil-code-unique}
+
+-- every answer is coded that has room for its track
+pub answer-coded : (answer found : List ℕ) (r : ℤ) (left : List ℕ) → 3 ≤ length answer → length answer ≤ 8451 → 2 + 2 * length answer ≤ length found
+    → CodesAnswer answer found r left → (r ≡ pos (2 + 2 * length answer)) × (left ≡ over (answerTrack answer) found)
+unfolding shortestAnswer longestAnswer
+answer-coded answer found r left least most room code = coil-code-unique code (codes-served answer found least most room)
 
 module _ {answer room : List ℕ} {n : ℕ} {track : List ℕ} (code : CodesAnswer answer room (pos n) track) where
   -- a coder that answers a length was given nothing to refuse
@@ -53,8 +59,7 @@ module _ {answer room : List ℕ} {n : ℕ} {track : List ℕ} (code : CodesAnsw
 
   -- decoding them gives the answer back
   pub answer-of-code : {found : List ℕ} {r : ℤ} {left : List ℕ} → Bytes answer → longestAnswer ≤ length found → DecodesAnswer (take n track) found r left
-      → (r ≡ told 0 (length answer)) × (left ≡ over answer found)
-  unfolding number written
+      → (r ≡ pos (length answer)) × (left ≡ over answer found)
   answer-of-code {found} bytes wide-enough decode =
       let is : IsAnswer answer = record { bytes = bytes; least = least; most = most } in
-      coil-decode-unique (rw coded-track at decode) (decodes-reading (answerTrack answer) found wide-enough (an-answer answer) (reading-of-track answer is))
+      what-is-told (answerTrack answer) found _ _ wide-enough (rw coded-track at decode) .of-answer answer (reading-of-track answer is)

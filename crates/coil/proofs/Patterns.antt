@@ -28,9 +28,9 @@ pub gathered-bits : (b : ℕ) → b < 256 → gathered b ≡ fourBits b
 unfolding every fourBits
 gathered-bits b h = eqb-true (gathered b) (fourBits b) (every-at 256 (λ k. eqb (gathered k) (fourBits k)) refl b h)
 
-abbrev pub unlike : ℕ → ℕ
-unlike b = bitAnd (bitXor (bitXor b (b / 2)) 0x55) 0x55
+abbrev pub level : ℕ → ℕ
+level b = bitAnd (bitXor (bitXor b (b / 2)) 0x55) 0x55
 
-pub unlike-flaws : (b : ℕ) → b < 256 → unlike b ≡ flaws b
+pub level-flaws : (b : ℕ) → b < 256 → level b ≡ flaws b
 unfolding every flaws flaw
-unlike-flaws b h = eqb-true (unlike b) (flaws b) (every-at 256 (λ k. eqb (unlike k) (flaws k)) refl b h)
+level-flaws b h = eqb-true (level b) (flaws b) (every-at 256 (λ k. eqb (level k) (flaws k)) refl b h)

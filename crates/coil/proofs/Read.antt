@@ -4,12 +4,13 @@ use mathlib.Core.Path.{_≡_, refl, sym, _∙_}
 use mathlib.Core.Bool.{Bool, true, false, false≢true}
 use Prim.Native.Nat.{ℕ, _≤_}
 use mathlib.Core.List.{List}
+use native.Mathlib.Nat.{zero-add}
 use lib.IntN.{ℤ}
 use lib.ListN.{length}
 use Rattle.lent.specs.Bytes.{Bytes}
 use Rattle.frames.specs.Frame.{longestAnswer}
 use Rattle.coil.specs.Decoder.{isFramed, bytesIn, bytesFrom, Reading, an-answer, a-clash, a-loss, no-track, reading, number, written, DecodesAnswer}
-use Rattle.coil.specs.Read.{Framed, TrackReads, answer-read, clash-read, loss-read, none-read}
+use Rattle.coil.specs.Read.{Framed, TrackReads, answer-read, clash-read, loss-read, none-read, Tells}
 use Rattle.coil.proofs.Framed.{Judged, all-good, clash-at, loss-at, judged, test-of-framed, framed-of-test, reading-answer, reading-clash, reading-loss}
 use Rattle.coil.proofs.DecodeWays.{decodes-reading}
 use Rattle.coil.proofs.Inverse.{track-read, answer-read-is}
@@ -24,7 +25,7 @@ module _ (t found : List ℕ) (r : ℤ) (left : List ℕ) (room : longestAnswer 
   unfolding number written
   by-pairs n bytes framed (all-good good) =
       let result = told-as (an-answer (bytesFrom t 0 n)) (reading-answer n t framed good) in
-      answer-read (bytesFrom t 0 n) (answer-read-is n t bytes framed good) (track-read n t bytes framed good) (result .0) (result .1)
+      answer-read (bytesFrom t 0 n) (answer-read-is n t bytes framed good) (track-read n t bytes framed good) (rw zero-add at (result .0)) (result .1)
   by-pairs n bytes framed (clash-at k h good pair) =
       let result = told-as (a-clash k) (reading-clash n k t framed h good pair) in
       clash-read n k framed h good pair (result .0) (result .1)
@@ -41,3 +42,13 @@ module _ (t found : List ℕ) (r : ℤ) (left : List ℕ) (room : longestAnswer 
       go false e =
           let result = told-as no-track (rw e) in
           none-read (λ n framed. false≢true (sym e ∙ test-of-framed n t framed)) (result .0) (result .1)
+
+  pub what-is-told : Tells t found r left
+  unfolding number written
+  what-is-told =
+      record {
+        of-answer = λ answer is. rw zero-add at (told-as (an-answer answer) is);
+        of-clash = λ k is. told-as (a-clash k) is;
+        of-loss = λ k is. told-as (a-loss k) is;
+        of-none = λ is. told-as no-track is;
+      }

@@ -1,4 +1,4 @@
--- 02, W3: what the coder of answers replies and leaves.
+-- 02, W3: the number that the coder of answers gives back, and the buffer that it leaves.
 use Prim.Native.Nat.{ℕ}
 use mathlib.Core.Bool.{Bool, cond, _&&_}
 use mathlib.Core.List.{List}
@@ -27,7 +27,7 @@ codeAnswer answer room =
 unfoldable pub codeLeaves : List ℕ → List ℕ → List ℕ
 codeLeaves answer found = cond (isAnswerLength (length answer) && hasRoom answer (length found)) (over (answerTrack answer) found) found
 
--- what `code` promises: its answer r, and the track buffer that it leaves
+-- what `code` promises: its number r, and the track buffer that it leaves
 pub record CodesAnswer (answer found : List ℕ) (r : ℤ) (left : List ℕ) : Type 0 where
   pub tells : r ≡ codeAnswer answer (length found)
   pub leaves : left ≡ codeLeaves answer found

@@ -1,4 +1,4 @@
--- 02, W3: what is read of a track on the coil, and what the decoder replies and leaves.
+-- 02, W3: what is read of a track on the coil, the number that the decoder gives back, and the buffer that it leaves.
 use Prim.Native.Nat.{ℕ, zero, suc, _+_, _-_, _*_, _/_, _%_, _^_}
 use mathlib.Core.Bool.{Bool, cond, _&&_, _||_}
 use mathlib.Core.List.{List, [], _∷_}
@@ -88,7 +88,7 @@ readTo t k =
 unfoldable pub reading : List ℕ → Reading
 reading t = cond (isFramed t) (readTo t (firstBad t)) no-track
 
--- ---- what the decoder replies and leaves
+-- ---- what the decoder gives back and leaves
 
 -- one number: 131,072 times the kind, and the answer's length or the bit's place; a refusal is minus its number
 abbrev pub told : ℕ → ℕ → ℤ
@@ -114,7 +114,7 @@ decodeAnswer t room = cond (leb longestAnswer room) (number (reading t)) (refuse
 unfoldable pub decodeLeaves : List ℕ → List ℕ → List ℕ
 decodeLeaves t found = cond (leb longestAnswer (length found)) (written (reading t) found) found
 
--- what `decode` promises: its answer r, and the buffer that it leaves
+-- what `decode` promises: its number r, and the buffer that it leaves
 pub record DecodesAnswer (t found : List ℕ) (r : ℤ) (left : List ℕ) : Type 0 where
   pub tells : r ≡ decodeAnswer t (length found)
   pub leaves : left ≡ decodeLeaves t found

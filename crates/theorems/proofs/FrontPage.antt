@@ -29,13 +29,14 @@ use Rattle.tracks.specs.Examples.{Tracks}
 use Rattle.tracks.proofs.Different.{mark-no-track}
 use Rattle.tracks.proofs.Inverse.{decode-of-code, decode-answers}
 use Rattle.tracks.proofs.Examples.{tracks}
+use Rattle.coil.specs.Track.{answerTrack}
 use Rattle.coil.specs.Coder.{CodesAnswer}
 use Rattle.coil.specs.Decoder.{DecodesAnswer}
 use Rattle.coil.specs.Decoder as coil
-use Rattle.coil.specs.Read.{TrackReads}
+use Rattle.coil.specs.Read.{TrackReads, Tells}
 use Rattle.coil.specs.Overlay.{Answers, Overlays}
 use Rattle.coil.specs.Examples.{Coil}
-use Rattle.coil.proofs.Back.{answer-of-code}
+use Rattle.coil.proofs.Back.{answer-coded, answer-of-code}
 use Rattle.coil.proofs.Read as coil-read
 use Rattle.coil.proofs.Overlay.{overlays}
 use Rattle.coil.proofs.Examples as coil-examples
@@ -102,11 +103,13 @@ use Rattle.field.proofs.Families.{families}
 use Rattle.field.proofs.Examples.{field-of-three}
 use Rattle.chorus.specs.Air.{heardAs, coilAir, heardBy, numberHeard, differentRows, coilArrives}
 use Rattle.chorus.specs.Different.{differentAnswers, uidsOf, EachOnce}
-use Rattle.chorus.specs.Demand.{AllMarked, onCoilPlayed, coilDemand3, TwinsMean, coilTwins}
+use Rattle.chorus.specs.Demand.{DsfidsFit, onCoilPlayed, coilDemand3, TwinsMean, coilTwins}
+use Rattle.chorus.specs.Examples.{CoilFields}
 use Rattle.chorus.proofs.Air.{number-heard, coil-arrives}
 use Rattle.chorus.proofs.Different.{each-once}
 use Rattle.chorus.proofs.Apart.{coil-demand3}
 use Rattle.chorus.proofs.Twins.{coil-twins}
+use Rattle.chorus.proofs.Examples.{coil-fields}
 use Rattle.row.specs.Row.{cardsOf}
 use Rattle.row.specs.Row as row
 use Rattle.row.specs.Play.{freshDesk, ended}
@@ -394,11 +397,16 @@ a-request-for-a-family = family-requested
 
 -- ---- Answers on the coil (02, replies straight from the coil)
 
+-- Every answer of 3 to 8,451 bytes is coded, where there is room for its track: two bytes for each of its own, and start and end.
+coding-an-answer : (answer found : List ℕ) (r : ℤ) (left : List ℕ) → 3 ≤ length answer → length answer ≤ 8451 → 2 + 2 * length answer ≤ length found
+    → CodesAnswer answer found r left → (r ≡ pos (2 + 2 * length answer)) × (left ≡ over (answerTrack answer) found)
+coding-an-answer = answer-coded
+
 -- Decoding what was coded gives the answer back: wherever the coder of answers tells a length n, the decoder reads the first n bytes that it left, in any
 -- room of 8,451 or more, as that answer, and leaves the bytes past it as found.
 decoding-a-coded-answer : {answer room : List ℕ} {n : ℕ} {track : List ℕ} → CodesAnswer answer room (pos n) track
     → {found : List ℕ} {r : ℤ} {left : List ℕ} → Bytes answer → longestAnswer ≤ length found → DecodesAnswer (take n track) found r left
-    → (r ≡ coil.told 0 (length answer)) × (left ≡ over answer found)
+    → (r ≡ pos (length answer)) × (left ≡ over answer found)
 decoding-a-coded-answer = answer-of-code
 
 -- What is read of any bytes, with such a room, is one of four (`TrackReads`): an answer, and the bytes are to the byte what the coder makes of it; a clash at
@@ -407,6 +415,10 @@ decoding-a-coded-answer = answer-of-code
 what-the-coil-says : (t found : List ℕ) (r : ℤ) (left : List ℕ) → longestAnswer ≤ length found → DecodesAnswer t found r left → Bytes t
     → TrackReads t found r left
 what-the-coil-says = coil-read.what-is-read
+
+-- And of what is read, the number that is told: an answer's length, 131,072 and the bit of a clash, 262,144 and that of a loss, or minus 12.
+what-the-coil-tells : (t found : List ℕ) (r : ℤ) (left : List ℕ) → longestAnswer ≤ length found → DecodesAnswer t found r left → Tells t found r left
+what-the-coil-tells = coil-read.what-is-told
 
 -- Answers laid over each other: identical ones are read as that answer; others of one length as a clash at the first bit in which they are not all alike,
 -- and of any lengths as a clash.
@@ -418,7 +430,8 @@ what-arrives-on-the-coil : (rs : List (List ℕ)) → Answers rs → coilAir rs 
 unfolding coilArrives
 what-arrives-on-the-coil = coil-arrives
 
--- What a program tells the walk by the decoder's number, bytes where it is under 131,072 and else a clash, is what was read.
+-- What a program tells the walk by the decoder's number, bytes where it is from 0 to 131,071 and else a clash, is what was read. (A slot without pulses is
+-- silent, and not decoded.)
 what-the-walk-is-told : (t found : List ℕ) (r : ℤ) (left : List ℕ) → longestAnswer ≤ length found → DecodesAnswer t found r left
     → heardBy r left ≡ heardAs (coil.reading t)
 unfolding numberHeard
@@ -426,7 +439,7 @@ what-the-walk-is-told = number-heard
 
 -- Demand 3 on the coil, word for word, of the different answers, pairs of UID and DSFID, of the cards that answer the family: any cards as in demand 3 whose
 -- DSFIDs are bytes. Each slot the answers of all cards that speak are coded, laid over each other and decoded, and the walk hears what comes of it.
-demand-three-on-the-coil : (family : ℕ) (tags : List Tag) (list room : List ℕ) → AllObey tags → AllMarked tags → 64 ≤ length list → 14 ≤ length room
+demand-three-on-the-coil : (family : ℕ) (tags : List Tag) (list room : List ℕ) → AllObey tags → DsfidsFit tags → 64 ≤ length list → 14 ≤ length room
     → Demand3 family tags (uidsOf (differentAnswers family tags)) (playedForBy coilAir (16 * 481) (fresh family list room tags))
 unfolding coilDemand3 onCoilPlayed
 demand-three-on-the-coil = coil-demand3
@@ -437,7 +450,7 @@ each-answer-once = each-once
 
 -- What twins means there: it ends so only if two cards that answer have one UID and different DSFIDs; with at most 64 different answers these always end it so,
 -- and where there are none it ends complete. Cards alike in both do no harm.
-twins-on-the-coil : (family : ℕ) (tags : List Tag) (list room : List ℕ) → AllObey tags → AllMarked tags → 64 ≤ length list → 14 ≤ length room
+twins-on-the-coil : (family : ℕ) (tags : List Tag) (list room : List ℕ) → AllObey tags → DsfidsFit tags → 64 ≤ length list → 14 ≤ length room
     → TwinsMean family tags (playedForBy coilAir (16 * 481) (fresh family list room tags) .walk)
 unfolding coilTwins onCoilPlayed
 twins-on-the-coil = coil-twins
@@ -518,6 +531,7 @@ record Examples : Type 0 where
   of-walks : Walks
   of-three : FieldOfThree
   of-families : Families
+  of-coil-fields : CoilFields
   of-bench : Bench
 
 examples : Examples
@@ -530,5 +544,6 @@ examples =
       of-walks = walks;
       of-three = field-of-three;
       of-families = families;
+      of-coil-fields = coil-fields;
       of-bench = bench;
     }
