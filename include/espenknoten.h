@@ -45,7 +45,7 @@ extern "C" {
  * header and archive do not belong together. Refuses nothing.
  */
 #define EK_VERSION_MAJOR 2
-#define EK_VERSION_MINOR 2
+#define EK_VERSION_MINOR 3
 #define EK_VERSION_PATCH 0
 #define EK_VERSION                                                             \
     (65536 * EK_VERSION_MAJOR + 256 * EK_VERSION_MINOR + EK_VERSION_PATCH)
@@ -66,6 +66,8 @@ uint32_t ek_version(void);
  *   ek_walk_hear_..  EK_REFUSED_WALK, EK_REFUSED_ENDED, EK_REFUSED_LIST
  *   ek_make          EK_REFUSED_REQUEST, EK_REFUSED_ROOM
  *   ek_read          EK_REFUSED_REQUEST, EK_REFUSED_ROOM, EK_REFUSED_ANSWER
+ *   ek_coil_code     EK_REFUSED_ANSWER_LENGTH, EK_REFUSED_ROOM
+ *   ek_coil_decode   EK_REFUSED_ROOM, EK_REFUSED_NO_COIL_TRACK
  *
  * All others refuse nothing.
  */
@@ -77,10 +79,12 @@ uint32_t ek_version(void);
 #define EK_REFUSED_ENDED (-6)           /* hearing after an ending */
 #define EK_REFUSED_FRAME_OR_CODING (-7) /* frame over 64 bytes, or no coding */
 #define EK_REFUSED_REQUEST (-7)         /* a request that is not made */
+#define EK_REFUSED_ANSWER_LENGTH (-7)   /* answer not of 3 to 8,451 bytes */
 #define EK_REFUSED_ROOM (-8)            /* room short */
 #define EK_REFUSED_NO_TRACK (-9)        /* not a track */
 #define EK_REFUSED_WALK (-10)           /* a walk's record, see below */
 #define EK_REFUSED_ANSWER (-11)         /* not an answer to the request */
+#define EK_REFUSED_NO_COIL_TRACK (-12)  /* wrong start, end or length */
 
 /* The longest frame, in bytes. */
 #define EK_FRAME_MAX 64
@@ -587,8 +591,9 @@ struct ek_reading {
 typedef char ek_request_has_16_bytes[sizeof(struct ek_request) == 16 ? 1 : -1];
 typedef char ek_reading_has_24_bytes[sizeof(struct ek_reading) == 24 ? 1 : -1];
 
-/* The longest request that ek_make makes, and the longest answer to one. */
+/* The longest request that ek_make makes; the shortest and longest answer. */
 #define EK_MADE_MAX 45
+#define EK_ANSWER_MIN 3
 #define EK_ANSWER_MAX 8451
 
 /*
@@ -639,6 +644,74 @@ struct ek_reading ek_read(struct ek_request request, const uint8_t *answer,
 
 #define EK_READ_KIND(answer) ((int)((answer) / 65536))
 #define EK_READ_VALUE(answer) ((size_t)((answer) % 65536))
+
+/*
+ * The coil: answers of tags as a front end hears them that gives raw
+ * subcarrier, one subcarrier at the high data rate. A track packs eight units
+ * of 18.88 us into a byte, the earliest in the top bit, 1 for subcarrier. It is
+ * EK_COIL_START, two bytes for each byte of the answer, and EK_COIL_END; its
+ * first three units and its last three have no subcarrier. A bit 0 is the pair
+ * of units 10, a bit 1 is 01, the lowest bit first: E1 is 6A 95.
+ *
+ * Where tags answer at once, their tracks lie over each other: a unit has
+ * subcarrier if it has in one of them. A pair 11 is a clash; a pair 00, which
+ * no tag sends, is lost. Different answers over each other, of whatever
+ * lengths, are always read as a clash; identical ones are read as one. Neither
+ * has a byte EK_COIL_END before the last: the first such byte ends the track.
+ *
+ * So a walk on the coil counts different answers and not tags: two tags alike
+ * in UID and DSFID count as one, and EK_WALK_TWINS means one UID with different
+ * DSFIDs. What to tell the walk of a slot, r being what ek_coil_decode returns:
+ *
+ *   no subcarrier                              ek_walk_hear_silence
+ *   EK_COIL_KIND(r) is EK_COIL_ANSWER          ek_walk_hear_bytes
+ *   it is EK_COIL_CLASH or EK_COIL_LOST        ek_walk_hear_clash
+ *   r is EK_REFUSED_NO_COIL_TRACK              ek_walk_hear_clash
+ */
+#define EK_COIL_START 0x1D
+#define EK_COIL_END 0xB8
+
+/* The length of the track of an answer of n bytes, and the longest track. */
+#define EK_COIL_TRACK(n) (2 + 2 * (n))
+#define EK_COIL_TRACK_MAX EK_COIL_TRACK(EK_ANSWER_MAX)
+
+/*
+ * Codes an answer of length bytes, any bytes: no check is asked for. Returns
+ * the track's length, 2 + 2 * length; it stands at the start of track.
+ * EK_REFUSED_ANSWER_LENGTH: length is not EK_ANSWER_MIN to EK_ANSWER_MAX.
+ * EK_REFUSED_ROOM, looked for after that: room is less than the track's length.
+ */
+int64_t ek_coil_code(const uint8_t *answer, size_t length, uint8_t *track,
+                     size_t room);
+
+/*
+ * Reads a track of length bytes. The number r that it returns, if it is not
+ * negative, holds two: EK_COIL_KIND(r) is what was read, EK_COIL_NUMBER(r) a
+ * length or a place:
+ *
+ *   EK_COIL_ANSWER  length  an answer, EK_ANSWER_MIN to EK_ANSWER_MAX bytes: it
+ *                           stands at the start of answer; no check is looked
+ *                           at
+ *   EK_COIL_CLASH   place   the first bad bit is a clash: no byte changes
+ *   EK_COIL_LOST    place   the first bad bit is lost: no byte changes
+ *
+ * The first bit is the earliest. Its place is 8 * byte + bit, both from 0, the
+ * lowest bit 0: up to 67,607. The kind of a refusal is -1, so that it is never
+ * taken for an answer; its EK_COIL_NUMBER tells nothing.
+ * EK_REFUSED_ROOM: room is less than EK_ANSWER_MAX, whatever the track is.
+ * EK_REFUSED_NO_COIL_TRACK, looked for after that: the first byte is not
+ * EK_COIL_START, or the last not EK_COIL_END, or length is not that of the
+ * track of an answer.
+ */
+int64_t ek_coil_decode(const uint8_t *track, size_t length, uint8_t *answer,
+                       size_t room);
+
+#define EK_COIL_ANSWER 0
+#define EK_COIL_CLASH 1
+#define EK_COIL_LOST 2
+
+#define EK_COIL_KIND(r) ((int)(((r) + 131072) / 131072) - 1)
+#define EK_COIL_NUMBER(r) ((size_t)((r) % 131072))
 
 #ifdef __cplusplus
 }
