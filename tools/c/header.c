@@ -990,6 +990,229 @@ static void answers(void)
     }
 }
 
+/* ---- the coil */
+
+static uint8_t coil_answer[EK_ANSWER_MAX + 1];
+static uint8_t coil_track[EK_COIL_TRACK_MAX + 2];
+static uint8_t coil_back[EK_ANSWER_MAX + 1];
+
+/* Codes the first bytes of the answer. The room has just the track's length,
+ * and no byte past it changes. */
+static size_t coil_code(size_t n)
+{
+    size_t length = EK_COIL_TRACK(n);
+    memset(coil_track, 0xA5, sizeof coil_track);
+    MUST(ek_coil_code(coil_answer, n, coil_track, length - 1) ==
+         EK_REFUSED_ROOM);
+    MUST(coil_track[0] == 0xA5);
+    MUST(ek_coil_code(coil_answer, n, coil_track, length) == (int64_t)length);
+    MUST(coil_track[0] == EK_COIL_START);
+    MUST(coil_track[length - 1] == EK_COIL_END && coil_track[length] == 0xA5);
+    return length;
+}
+
+static int64_t coil_decode(size_t length)
+{
+    memset(coil_back, 0xA5, sizeof coil_back);
+    return ek_coil_decode(coil_track, length, coil_back, EK_ANSWER_MAX);
+}
+
+/* Whether every byte that was read back from this place on is as found. */
+static bool coil_untouched(size_t from)
+{
+    for (size_t i = from; i < sizeof coil_back; i++) {
+        if (coil_back[i] != 0xA5) {
+            return false;
+        }
+    }
+    return true;
+}
+
+/* Whether the track is read as the first bytes of the answer. */
+static bool coil_reads(size_t length, size_t n)
+{
+    int64_t r = coil_decode(length);
+    return EK_COIL_KIND(r) == EK_COIL_ANSWER && EK_COIL_NUMBER(r) == n &&
+           memcmp(coil_back, coil_answer, n) == 0 && coil_untouched(n);
+}
+
+/* Whether it is a clash, or lost, first at this bit, and nothing is written. */
+static bool coil_bad(size_t length, int kind, size_t bit)
+{
+    int64_t r = coil_decode(length);
+    return EK_COIL_KIND(r) == kind && EK_COIL_NUMBER(r) == bit &&
+           coil_untouched(0);
+}
+
+static void coil_draw(size_t n, unsigned seed)
+{
+    for (size_t i = 0; i < n; i++) {
+        seed = seed * 1103515245 + 12345;
+        coil_answer[i] = (uint8_t)(seed >> 16);
+    }
+}
+
+/* The pair of units of a bit becomes 11, or 00. */
+static void coil_pair(size_t bit, bool pulses)
+{
+    uint8_t units = (uint8_t)(0xC0 >> (2 * (bit % 4)));
+    uint8_t *byte = &coil_track[1 + bit / 4];
+    *byte = (uint8_t)(pulses ? *byte | units : *byte & ~units);
+}
+
+/* Every byte and many lengths, to the longest. */
+static void coil_there_and_back(void)
+{
+    MUST(EK_COIL_TRACK_MAX == EK_COIL_TRACK(EK_ANSWER_MAX));
+    coil_answer[0] = 0xE1;
+    coil_answer[1] = 0x00;
+    coil_answer[2] = 0xFF;
+    MUST(coil_code(EK_ANSWER_MIN) == 8);
+    MUST(coil_track[1] == 0x6A && coil_track[2] == 0x95);
+    MUST(coil_track[3] == 0xAA && coil_track[4] == 0xAA);
+    MUST(coil_track[5] == 0x55 && coil_track[6] == 0x55);
+    for (unsigned i = 0; i < 256; i++) {
+        coil_answer[i] = (uint8_t)i;
+    }
+    MUST(coil_reads(coil_code(256), 256));
+    for (size_t n = EK_ANSWER_MIN; n <= 300; n++) {
+        coil_draw(n, (unsigned)n);
+        MUST(coil_reads(coil_code(n), n));
+    }
+    coil_draw(EK_ANSWER_MAX, 1);
+    MUST(coil_code(EK_ANSWER_MAX) == EK_COIL_TRACK_MAX);
+    MUST(coil_reads(EK_COIL_TRACK_MAX, EK_ANSWER_MAX));
+}
+
+/* Each bit bad in both ways, alone and before a bad one of the other way; then
+ * the last bit of the longest answer. */
+static void coil_first_bad(void)
+{
+    enum { N = 40 };
+    coil_draw(N, 2);
+    for (size_t bit = 0; bit < 8 * N; bit++) {
+        for (int clash = 0; clash < 2; clash++) {
+            int kind = clash ? EK_COIL_CLASH : EK_COIL_LOST;
+            size_t length = coil_code(N);
+            coil_pair(bit, clash);
+            MUST(coil_bad(length, kind, bit));
+            for (size_t later = bit + 1; later < 8 * N; later += 7) {
+                coil_pair(later, !clash);
+                MUST(coil_bad(length, kind, bit));
+            }
+        }
+    }
+    coil_draw(EK_ANSWER_MAX, 3);
+    coil_code(EK_ANSWER_MAX);
+    coil_pair(67607, true);
+    MUST(coil_bad(EK_COIL_TRACK_MAX, EK_COIL_CLASH, 67607));
+    coil_pair(67607, false);
+    MUST(coil_bad(EK_COIL_TRACK_MAX, EK_COIL_LOST, 67607));
+    coil_pair(0, false);
+    MUST(coil_bad(EK_COIL_TRACK_MAX, EK_COIL_LOST, 0));
+}
+
+/* Tracks over each other: identical answers are one; different ones are a clash
+ * at the first bit in which they differ, or where the shorter one ends; the
+ * first end is the last byte. */
+static void coil_overlaid(void)
+{
+    enum { N = 9 };
+    static uint8_t first[EK_COIL_TRACK(N)];
+    for (size_t n = EK_ANSWER_MIN; n <= N; n++) {
+        for (size_t bit = 0; bit <= 8 * n; bit++) {
+            size_t place = bit;
+            coil_draw(N, (unsigned)bit);
+            size_t length = coil_code(N);
+            memcpy(first, coil_track, length);
+            if (bit < 8 * n) {
+                coil_answer[bit / 8] ^= (uint8_t)(1 << bit % 8);
+            }
+            size_t shorter = coil_code(n);
+            memset(coil_track + shorter, 0, length - shorter);
+            for (size_t i = 0; i < length; i++) {
+                coil_track[i] |= first[i];
+            }
+            MUST(memchr(coil_track, EK_COIL_END, length) ==
+                 coil_track + length - 1);
+            if (bit == 8 * n && n == N) {
+                MUST(coil_reads(length, N));
+                continue;
+            }
+            if (bit == 8 * n) { /* the end begins with 10, a bit 0, and 11 */
+                place += (coil_answer[n] & 1) == 0;
+            }
+            MUST(coil_bad(length, EK_COIL_CLASH, place));
+        }
+    }
+}
+
+/* What a track of n bytes is read as, with nothing but bits 0 in it. */
+static int64_t coil_of_length(size_t n)
+{
+    memset(coil_track, 0xAA, n);
+    coil_track[0] = EK_COIL_START;
+    coil_track[n - 1] = EK_COIL_END;
+    return coil_decode(n);
+}
+
+/* 7, 8 to code; 8, 12 to decode. A refusal's kind is -1. */
+static void orders_of_coil(void)
+{
+    size_t length;
+    memset(coil_track, 0xA5, sizeof coil_track);
+    for (size_t n = 0; n < EK_ANSWER_MIN; n++) {
+        MUST(ek_coil_code(coil_answer, n, coil_track, 0) ==
+             EK_REFUSED_ANSWER_LENGTH);
+    }
+    MUST(ek_coil_code(coil_answer, EK_ANSWER_MAX + 1, coil_track, 0) ==
+         EK_REFUSED_ANSWER_LENGTH);
+    MUST(ek_coil_code(coil_answer, EK_ANSWER_MAX, coil_track,
+                      EK_COIL_TRACK_MAX - 1) == EK_REFUSED_ROOM);
+    MUST(ek_coil_code(coil_answer, EK_ANSWER_MIN, coil_track, 0) ==
+         EK_REFUSED_ROOM);
+    MUST(coil_track[0] == 0xA5);
+
+    MUST(ek_coil_decode(NULL, 0, coil_back, EK_ANSWER_MAX - 1) ==
+         EK_REFUSED_ROOM);
+    MUST(ek_coil_decode(NULL, 0, coil_back, EK_ANSWER_MAX) ==
+         EK_REFUSED_NO_COIL_TRACK);
+    coil_draw(EK_ANSWER_MAX + 1, 4);
+    length = coil_code(EK_ANSWER_MIN + 1);
+    MUST(ek_coil_decode(coil_track, length, coil_back, EK_ANSWER_MAX - 1) ==
+         EK_REFUSED_ROOM);
+    MUST(coil_reads(length, EK_ANSWER_MIN + 1));
+    for (unsigned byte = 0; byte < 256; byte++) {
+        coil_track[0] = (uint8_t)byte;
+        MUST((coil_decode(length) == EK_REFUSED_NO_COIL_TRACK) ==
+             (byte != EK_COIL_START));
+    }
+    coil_track[0] = EK_COIL_START;
+    for (unsigned byte = 0; byte < 256; byte++) {
+        coil_track[length - 1] = (uint8_t)byte;
+        MUST((coil_decode(length) == EK_REFUSED_NO_COIL_TRACK) ==
+             (byte != EK_COIL_END));
+    }
+    /* A wrong start, end or length comes before a bad bit. */
+    coil_track[1] = 0;
+    MUST(coil_decode(length) == EK_REFUSED_NO_COIL_TRACK);
+
+    for (size_t n = 1; n < 40; n++) {
+        bool fits = n % 2 == 0 && n >= EK_COIL_TRACK(EK_ANSWER_MIN);
+        MUST(coil_of_length(n) ==
+             (fits ? (int64_t)(n - 2) / 2 : EK_REFUSED_NO_COIL_TRACK));
+        MUST(fits || coil_untouched(0));
+    }
+    MUST(coil_of_length(EK_COIL_TRACK_MAX - 1) == EK_REFUSED_NO_COIL_TRACK);
+    MUST(coil_of_length(EK_COIL_TRACK_MAX) == EK_ANSWER_MAX);
+    MUST(coil_of_length(EK_COIL_TRACK_MAX + 1) == EK_REFUSED_NO_COIL_TRACK);
+    MUST(coil_of_length(EK_COIL_TRACK_MAX + 2) == EK_REFUSED_NO_COIL_TRACK);
+    MUST(coil_untouched(0));
+    for (int64_t r = EK_REFUSED_NO_COIL_TRACK; r < 0; r++) {
+        MUST(EK_COIL_KIND(r) == -1);
+    }
+}
+
 int main(void)
 {
     version();
@@ -1016,5 +1239,9 @@ int main(void)
     longest();
     orders_of_reader();
     answers();
+    coil_there_and_back();
+    coil_first_bad();
+    coil_overlaid();
+    orders_of_coil();
     return 0;
 }

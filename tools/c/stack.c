@@ -33,6 +33,8 @@ static uint8_t request[EK_REQUEST_MAX];
 static struct ek_request asked;
 static uint8_t blocks[sizeof memory];
 static uint8_t read_locks[sizeof locks];
+static uint8_t coil_answer[EK_ANSWER_MAX];
+static uint8_t coil_track[EK_COIL_TRACK_MAX];
 static int64_t back;
 
 static void enter(void)
@@ -130,6 +132,16 @@ static void read_answer(void)
     back = ek_read(asked, answer, length, blocks, sizeof blocks, read_locks,
                    sizeof read_locks)
                .answer;
+}
+
+static void coil_code(void)
+{
+    back = ek_coil_code(coil_answer, length, coil_track, sizeof coil_track);
+}
+
+static void coil_decode(void)
+{
+    back = ek_coil_decode(coil_track, length, coil_answer, sizeof coil_answer);
 }
 
 static size_t most;
@@ -249,6 +261,21 @@ static void reader(void)
     }
 }
 
+/* Answers of many lengths to the longest: read back, lost and clashing. */
+static void coil(void)
+{
+    for (size_t n = EK_ANSWER_MIN; n <= EK_ANSWER_MAX; n += 24) {
+        length = n;
+        measure(coil_code);
+        length = (size_t)back;
+        measure(coil_decode);
+        coil_track[length - 2] = 0;
+        measure(coil_decode);
+        coil_track[length - 2] = 0xFF;
+        measure(coil_decode);
+    }
+}
+
 int main(void)
 {
     measure(version);
@@ -256,6 +283,7 @@ int main(void)
     card();
     walks();
     reader();
+    coil();
     printf("%u\n", (unsigned)most);
     return 0;
 }
