@@ -37,6 +37,7 @@ help:
 	@echo 'make tag        from C: play a tag; inventory, families, read, write, slot mark'
 	@echo 'make walk       from C: walk fields of cards'
 	@echo 'make tools      from C: walk a rack, and show length and wear of each tool in it'
+	@echo 'make coil       from C: walk tags whose answers lie over each other as raw subcarrier'
 	@echo 'make install    programs, library, header, pkg-config file and pages below PREFIX ($(PREFIX)); make uninstall takes them away'
 	@echo 'make test       the whole gate: every proof, every must-fail edit, every comparison'
 	@echo 'make compare    hold the library against the independent implementation'
