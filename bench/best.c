@@ -3,9 +3,14 @@
  * its own, which it hands over where the whole track was right. 1 of 4 has a
  * table; 1 of 256 looks at eight bytes at a time. No jump within a unit
  * depends on the byte that it stands for.
+ *
+ * For the coil there are a coder and a decoder. Short answers go by tables, and
+ * their decoder too reads once; long ones go by shifts and masks in loops that
+ * a compiler makes many bytes at a time of.
  */
 #include "best.h"
 
+#include <stdbool.h>
 #include <string.h>
 
 #include "espenknoten.h"
@@ -145,4 +150,152 @@ int64_t best_decode(const uint8_t *track, size_t length, uint8_t *frame,
         return decode_one_of_256(track + 1, length - 2, frame);
     }
     return EK_REFUSED_NO_TRACK;
+}
+
+/* The longest answer that goes by tables. */
+#define SHORT 64
+
+/* The two track bytes of each byte. A pair 10 less a bit 1 is 01. */
+#define HALF(v)                                                                \
+    (0xAA - (((v)&1) << 6 | ((v)&2) << 3 | ((v)&4) | ((v)&8) >> 3))
+#define HALVES(v) {HALF(v), HALF((v) >> 4)}
+#define HALVES_4(v) HALVES(v), HALVES((v) + 1), HALVES((v) + 2), HALVES((v) + 3)
+#define HALVES_16(v)                                                           \
+    HALVES_4(v), HALVES_4((v) + 4), HALVES_4((v) + 8), HALVES_4((v) + 12)
+#define HALVES_64(v)                                                           \
+    HALVES_16(v), HALVES_16((v) + 16), HALVES_16((v) + 32), HALVES_16((v) + 48)
+static const uint8_t TRACKS[256][2] = {HALVES_64(0), HALVES_64(64),
+                                       HALVES_64(128), HALVES_64(192)};
+
+int64_t best_coil_code(const uint8_t *restrict answer, size_t length,
+                       uint8_t *restrict track, size_t room)
+{
+    if (length < EK_ANSWER_MIN || length > EK_ANSWER_MAX) {
+        return EK_REFUSED_ANSWER_LENGTH;
+    }
+    size_t n = EK_COIL_TRACK(length);
+    if (room < n) {
+        return EK_REFUSED_ROOM;
+    }
+    track[0] = EK_COIL_START;
+    if (length <= SHORT) {
+        for (size_t i = 0; i < length; i++) {
+            memcpy(track + 1 + 2 * i, TRACKS[answer[i]], 2);
+        }
+    } else {
+        for (size_t i = 0; i < length; i++) {
+            /* the bits in the order 4 0 5 1 6 2 7 3 from the top */
+            uint8_t v = answer[i];
+            uint8_t all = (uint8_t)((v & 0x24) | (v & 0x01) << 6 |
+                                    (v & 0x12) << 3 | (v & 0x48) >> 3 |
+                                    (v & 0x80) >> 6);
+            track[1 + 2 * i] = (uint8_t)(0xAA - (all & 0x55));
+            track[2 + 2 * i] = (uint8_t)(0xAA - (all >> 1 & 0x55));
+        }
+    }
+    track[n - 1] = EK_COIL_END;
+    return (int64_t)n;
+}
+
+/* A track byte's four bits, with FOUR beside them; 0 where a pair is bad. */
+#define FOUR 0x100
+static const uint16_t FOURS[256] = {
+    [0xAA] = FOUR | 0x0, [0x6A] = FOUR | 0x1, [0x9A] = FOUR | 0x2,
+    [0x5A] = FOUR | 0x3, [0xA6] = FOUR | 0x4, [0x66] = FOUR | 0x5,
+    [0x96] = FOUR | 0x6, [0x56] = FOUR | 0x7, [0xA9] = FOUR | 0x8,
+    [0x69] = FOUR | 0x9, [0x99] = FOUR | 0xA, [0x59] = FOUR | 0xB,
+    [0xA5] = FOUR | 0xC, [0x65] = FOUR | 0xD, [0x95] = FOUR | 0xE,
+    [0x55] = FOUR | 0xF,
+};
+
+/* FOUR of both bytes of a pair of them. */
+#define EIGHT (FOUR | FOUR << 4)
+
+/* Reads n bytes, SHORT at the most; false, and nothing is written, where a bit
+ * is bad. */
+static bool read_short(const uint8_t *restrict pairs, size_t n,
+                       uint8_t *restrict answer)
+{
+    uint8_t found[SHORT];
+    unsigned all = EIGHT;
+    for (size_t i = 0; i < n; i++) {
+        unsigned byte = FOURS[pairs[2 * i]] | FOURS[pairs[2 * i + 1]] << 4;
+        all &= byte;
+        found[i] = (uint8_t)byte;
+    }
+    if (all != EIGHT) {
+        return false;
+    }
+    memcpy(answer, found, n);
+    return true;
+}
+
+/* Whether the units of each pair of a byte differ. */
+#define GOOD 0x55
+#define DIFFERING(b) ((b) ^ (b) >> 1)
+
+/* How many bytes are looked at before the first question. */
+#define STRETCH 256
+
+/* How many of n bytes are passed before the first bad one. */
+static size_t good_bytes(const uint8_t *bytes, size_t n)
+{
+    size_t i = 0;
+    while (n - i >= STRETCH) {
+        uint8_t all = GOOD;
+        for (size_t k = 0; k < STRETCH; k++) {
+            all &= (uint8_t)DIFFERING(bytes[i + k]);
+        }
+        if (all != GOOD) {
+            break;
+        }
+        i += STRETCH;
+    }
+    while (i < n && (DIFFERING(bytes[i]) & GOOD) == GOOD) {
+        i++;
+    }
+    return i;
+}
+
+static void read_long(const uint8_t *restrict pairs, size_t n,
+                      uint8_t *restrict answer)
+{
+    for (size_t i = 0; i < n; i++) {
+        /* the bits in the order 4 0 5 1 6 2 7 3 from the top */
+        uint8_t all = (uint8_t)((pairs[2 * i] & GOOD) |
+                                (pairs[2 * i + 1] & GOOD) << 1);
+        answer[i] =
+            (uint8_t)((all & 0x24) | (all >> 6 & 0x01) | (all >> 3 & 0x12) |
+                      (all << 3 & 0x48) | (all << 6 & 0x80));
+    }
+}
+
+int64_t best_coil_decode(const uint8_t *restrict track, size_t length,
+                         uint8_t *restrict answer, size_t room)
+{
+    if (room < EK_ANSWER_MAX) {
+        return EK_REFUSED_ROOM;
+    }
+    if (length < EK_COIL_TRACK(EK_ANSWER_MIN) || length > EK_COIL_TRACK_MAX ||
+        length % 2 != 0 || track[0] != EK_COIL_START ||
+        track[length - 1] != EK_COIL_END) {
+        return EK_REFUSED_NO_COIL_TRACK;
+    }
+    const uint8_t *pairs = track + 1;
+    size_t n = (length - 2) / 2;
+    if (n <= SHORT && read_short(pairs, n, answer)) {
+        return (int64_t)n;
+    }
+    size_t i = good_bytes(pairs, 2 * n);
+    if (i == 2 * n) {
+        read_long(pairs, n, answer);
+        return (int64_t)n;
+    }
+    size_t bit = 0;
+    while ((DIFFERING(pairs[i]) >> (6 - 2 * bit) & 1) != 0) {
+        bit++;
+    }
+    bool pulse = pairs[i] >> (6 - 2 * bit) & 1;
+    return 131072 * (pulse ? EK_COIL_CLASH : EK_COIL_LOST) +
+           (int64_t)(4 * i + bit);
 }

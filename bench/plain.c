@@ -1,11 +1,13 @@
 /*
  * The form of the library in plain C: shifts and masks, no table, one bit of
- * the check at a time, and a decoder that looks at the whole track before it
- * writes. It looks for the pause of a 1 of 256 unit byte by byte, where the
- * library passes eight bytes 00 at a time.
+ * the check at a time, and decoders that look at the whole track before they
+ * write. It looks for the pause of a 1 of 256 unit byte by byte, where the
+ * library passes eight bytes 00 at a time; a coil's track it passes sixteen
+ * bytes at a time, as the library does.
  */
 #include "plain.h"
 
+#include <stdbool.h>
 #include <string.h>
 
 #include "espenknoten.h"
@@ -180,4 +182,97 @@ int64_t plain_decode(const uint8_t *track, size_t length, uint8_t *frame,
         return decode_one_of_256(track + 1, length - 2, frame);
     }
     return EK_REFUSED_NO_TRACK;
+}
+
+/* The lowest four bits of v as pairs: 10 for a 0, 01 for a 1. */
+static uint8_t half_of(uint8_t v)
+{
+    uint8_t x = (uint8_t)((v & 1) << 6 | (v & 2) << 3 | (v & 4) | (v & 8) >> 3);
+    return (uint8_t)(0xAA ^ (x | x << 1));
+}
+
+int64_t plain_coil_code(const uint8_t *restrict answer, size_t length,
+                        uint8_t *restrict track, size_t room)
+{
+    if (length < EK_ANSWER_MIN || length > EK_ANSWER_MAX) {
+        return EK_REFUSED_ANSWER_LENGTH;
+    }
+    size_t n = EK_COIL_TRACK(length);
+    if (room < n) {
+        return EK_REFUSED_ROOM;
+    }
+    track[0] = EK_COIL_START;
+    for (size_t i = 0; i < length; i++) {
+        track[1 + 2 * i] = half_of(answer[i]);
+        track[2 + 2 * i] = half_of(answer[i] >> 4);
+    }
+    track[n - 1] = EK_COIL_END;
+    return (int64_t)n;
+}
+
+/* The bits of a byte's four pairs, of which each is good. */
+static uint8_t bits_of(uint8_t b)
+{
+    return (uint8_t)((b >> 6 & 1) | (b >> 3 & 2) | (b & 4) | (b & 1) << 3);
+}
+
+/* A pair is good if its units differ: the lower bit of each is then set. */
+#define GOOD 0x55
+
+static uint8_t differing(uint8_t b)
+{
+    return (uint8_t)(b ^ b >> 1);
+}
+
+static bool sixteen_good(const uint8_t *bytes)
+{
+    uint8_t all = GOOD;
+    for (int k = 0; k < 16; k++) {
+        all &= differing(bytes[k]);
+    }
+    return all == GOOD;
+}
+
+/* The first bad bit of n bytes, or else the number of their bits. */
+static size_t first_bad(const uint8_t *bytes, size_t n)
+{
+    size_t i = 0;
+    while (n - i >= 16 && sixteen_good(bytes + i)) {
+        i += 16;
+    }
+    while (i < n && (differing(bytes[i]) & GOOD) == GOOD) {
+        i++;
+    }
+    size_t bit = 4 * i;
+    if (i < n) {
+        for (int place = 6; (differing(bytes[i]) >> place & 1) != 0;
+             place -= 2) {
+            bit++;
+        }
+    }
+    return bit;
+}
+
+int64_t plain_coil_decode(const uint8_t *restrict track, size_t length,
+                          uint8_t *restrict answer, size_t room)
+{
+    if (room < EK_ANSWER_MAX) {
+        return EK_REFUSED_ROOM;
+    }
+    if (length < EK_COIL_TRACK(EK_ANSWER_MIN) || length > EK_COIL_TRACK_MAX ||
+        length % 2 != 0 || track[0] != EK_COIL_START ||
+        track[length - 1] != EK_COIL_END) {
+        return EK_REFUSED_NO_COIL_TRACK;
+    }
+    size_t n = (length - 2) / 2;
+    size_t bad = first_bad(track + 1, 2 * n);
+    if (bad < 8 * n) {
+        bool pulse = track[1 + bad / 4] >> (6 - 2 * (bad % 4)) & 1;
+        return 131072 * (pulse ? EK_COIL_CLASH : EK_COIL_LOST) + (int64_t)bad;
+    }
+    for (size_t i = 0; i < n; i++) {
+        answer[i] = (uint8_t)(bits_of(track[1 + 2 * i]) |
+                              bits_of(track[2 + 2 * i]) << 4);
+    }
+    return (int64_t)n;
 }

@@ -1,4 +1,4 @@
-/* The check, coder, decoder and card in plain C, with the answers of
+/* The check, coders, decoders and card in plain C, with the answers of
  * espenknoten.h: what the benchmark measures the library against. */
 #ifndef PLAIN_H
 #define PLAIN_H
@@ -13,6 +13,12 @@ int64_t plain_code(const uint8_t *frame, size_t length, uint32_t coding,
 
 int64_t plain_decode(const uint8_t *track, size_t length, uint8_t *frame,
                      size_t room);
+
+int64_t plain_coil_code(const uint8_t *answer, size_t length, uint8_t *track,
+                        size_t room);
+
+int64_t plain_coil_decode(const uint8_t *track, size_t length, uint8_t *answer,
+                          size_t room);
 
 int64_t plain_card_frame(uint8_t *record, size_t record_length,
                          const uint8_t *frame, size_t length, uint8_t *memory,

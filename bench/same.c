@@ -130,3 +130,105 @@ void must_refuse_same(const uint8_t *frame)
     decode(slot_mark, sizeof slot_mark, EK_FRAME_MAX);
     decode(slot_mark, sizeof slot_mark, EK_FRAME_MAX - 1);
 }
+
+/* A byte past the longest track, or answer, is looked at too. */
+#define COIL_TRACK_ROOM (EK_COIL_TRACK_MAX + 1)
+#define ANSWER_ROOM (EK_ANSWER_MAX + 1)
+
+/* Returns the answer, and leaves the track in the caller's buffer. */
+static int64_t coil_code(const uint8_t *answer, size_t length, uint8_t *track,
+                         size_t room)
+{
+    static uint8_t other[COIL_TRACK_ROOM], third[COIL_TRACK_ROOM];
+    memset(track, FILL, COIL_TRACK_ROOM);
+    memset(other, FILL, COIL_TRACK_ROOM);
+    memset(third, FILL, COIL_TRACK_ROOM);
+    int64_t n = ek_coil_code(answer, length, track, room);
+    must(n == plain_coil_code(answer, length, other, room),
+         "coil coder's answer");
+    must(memcmp(track, other, COIL_TRACK_ROOM) == 0, "coil coder's track");
+    must(n == best_coil_code(answer, length, third, room),
+         "best coil coder's answer");
+    must(memcmp(track, third, COIL_TRACK_ROOM) == 0,
+         "best coil coder's track");
+    return n;
+}
+
+static int64_t coil_decode(const uint8_t *track, size_t length, size_t room)
+{
+    static uint8_t answer[ANSWER_ROOM], other[ANSWER_ROOM], third[ANSWER_ROOM];
+    memset(answer, FILL, sizeof answer);
+    memset(other, FILL, sizeof other);
+    memset(third, FILL, sizeof third);
+    int64_t n = ek_coil_decode(track, length, answer, room);
+    must(n == plain_coil_decode(track, length, other, room),
+         "coil decoder's answer");
+    must(memcmp(answer, other, sizeof answer) == 0, "coil decoder's bytes");
+    must(n == best_coil_decode(track, length, third, room),
+         "best coil decoder's answer");
+    must(memcmp(answer, third, sizeof answer) == 0,
+         "best coil decoder's bytes");
+    return n;
+}
+
+/* The track with every value in every byte of it, and two bytes turned over. */
+static void coil_damage(uint8_t *track, size_t length)
+{
+    for (size_t i = 0; i < length; i++) {
+        uint8_t was = track[i];
+        for (int value = 0; value <= UINT8_MAX; value++) {
+            track[i] = (uint8_t)value;
+            coil_decode(track, length, EK_ANSWER_MAX);
+        }
+        for (size_t j = i + 1; j < length; j += 5) {
+            track[j] ^= 0xFF;
+            coil_decode(track, length, EK_ANSWER_MAX);
+            track[j] ^= 0xFF;
+        }
+        track[i] = was;
+    }
+}
+
+/* The lengths that are damaged: short ones, and past what peers do at once. */
+static bool is_damaged(size_t n)
+{
+    return n == EK_ANSWER_MIN || n == 12 || n == 33 || n == 70;
+}
+
+/* The first n bytes of the answer: coded, read back, and in every way refused.
+ * Their last bit clashes, and then bits before it are lost. */
+static void coil_there_and_back(const uint8_t *answer, size_t n)
+{
+    static uint8_t track[COIL_TRACK_ROOM];
+    int64_t coded = coil_code(answer, n, track, EK_COIL_TRACK_MAX);
+    must(coded == (int64_t)EK_COIL_TRACK(n), "an answer is not coded");
+    size_t length = (size_t)coded;
+    must(coil_decode(track, length, EK_ANSWER_MAX) == (int64_t)n,
+         "a track is not read");
+    coil_decode(track, length, EK_ANSWER_MAX - 1);
+    coil_decode(track, length - 1, EK_ANSWER_MAX);
+    if (is_damaged(n)) {
+        coil_damage(track, length);
+    }
+    track[length - 2] |= 0x03;
+    must(coil_decode(track, length, EK_ANSWER_MAX) ==
+             131072 * EK_COIL_CLASH + (int64_t)(8 * n - 1),
+         "a clash in the last bit is not found");
+    track[length / 2] = 0;
+    coil_decode(track, length, EK_ANSWER_MAX);
+    coil_code(answer, n, track, length - 1);
+}
+
+void must_be_same_on_coil(const uint8_t *answer)
+{
+    static uint8_t track[COIL_TRACK_ROOM];
+    for (size_t n = 0; n < EK_ANSWER_MIN; n++) {
+        coil_code(answer, n, track, 0);
+    }
+    for (size_t n = EK_ANSWER_MIN; n < 600; n++) {
+        coil_there_and_back(answer, n);
+    }
+    coil_there_and_back(answer, EK_ANSWER_MAX - 1);
+    coil_there_and_back(answer, EK_ANSWER_MAX);
+    coil_code(answer, EK_ANSWER_MAX + 1, track, 0);
+}
