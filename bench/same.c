@@ -131,8 +131,8 @@ void must_refuse_same(const uint8_t *frame)
     decode(slot_mark, sizeof slot_mark, EK_FRAME_MAX - 1);
 }
 
-/* A byte past the longest track, or answer, is looked at too. */
-#define COIL_TRACK_ROOM (EK_COIL_TRACK_MAX + 1)
+/* What is past the longest track, or answer, is looked at too. */
+#define COIL_TRACK_ROOM (EK_COIL_TRACK_MAX + 2)
 #define ANSWER_ROOM (EK_ANSWER_MAX + 1)
 
 /* Returns the answer, and leaves the track in the caller's buffer. */
@@ -219,6 +219,16 @@ static void coil_there_and_back(const uint8_t *answer, size_t n)
     coil_code(answer, n, track, length - 1);
 }
 
+/* A track of so many bytes, with nothing but bits 0 in it. */
+static void coil_of_length(size_t length)
+{
+    static uint8_t track[COIL_TRACK_ROOM];
+    memset(track, 0xAA, sizeof track);
+    track[0] = EK_COIL_START;
+    track[length - 1] = EK_COIL_END;
+    coil_decode(track, length, EK_ANSWER_MAX);
+}
+
 void must_be_same_on_coil(const uint8_t *answer)
 {
     static uint8_t track[COIL_TRACK_ROOM];
@@ -231,4 +241,9 @@ void must_be_same_on_coil(const uint8_t *answer)
     coil_there_and_back(answer, EK_ANSWER_MAX - 1);
     coil_there_and_back(answer, EK_ANSWER_MAX);
     coil_code(answer, EK_ANSWER_MAX + 1, track, 0);
+    coil_decode(track, 0, EK_ANSWER_MAX);
+    for (size_t length = 1; length < 40; length++) {
+        coil_of_length(length);
+        coil_of_length(EK_COIL_TRACK_MAX + 3 - length);
+    }
 }

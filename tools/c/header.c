@@ -996,8 +996,8 @@ static uint8_t coil_answer[EK_ANSWER_MAX + 1];
 static uint8_t coil_track[EK_COIL_TRACK_MAX + 2];
 static uint8_t coil_back[EK_ANSWER_MAX + 1];
 
-/* Codes the first bytes of the answer. The room has just the track's length,
- * and no byte past it changes. */
+/* Codes the first bytes of the answer, in a room of just the track's length and
+ * in a larger one. */
 static size_t coil_code(size_t n)
 {
     size_t length = EK_COIL_TRACK(n);
@@ -1006,8 +1006,11 @@ static size_t coil_code(size_t n)
          EK_REFUSED_ROOM);
     MUST(coil_track[0] == 0xA5);
     MUST(ek_coil_code(coil_answer, n, coil_track, length) == (int64_t)length);
+    MUST(ek_coil_code(coil_answer, n, coil_track, sizeof coil_track) ==
+         (int64_t)length);
     MUST(coil_track[0] == EK_COIL_START);
     MUST(coil_track[length - 1] == EK_COIL_END && coil_track[length] == 0xA5);
+    MUST(coil_track[sizeof coil_track - 1] == 0xA5);
     return length;
 }
 
