@@ -1,17 +1,19 @@
 //! The independent implementation: check, sealed frames, coder, decoder, card,
-//! walk, reader, field and bench.
+//! walk, reader, coil, field and bench.
 //!
 //! Written from the rules page ("Check and byte order", "Pulse tracks", "The
 //! card", "The walk", "Numbers of refused calls", "Bench", "Examples"), the
-//! change requests W1 and W2, Table 1 of ISO/IEC 15693-3 and the C header. It
-//! works on sequences of single bits, digits, written digits and intervals,
-//! keeps what waits in sets and looks tracks up in a dictionary, so that it
-//! shares no way of working with the library. Clear, not fast.
+//! change requests W1 to W3, Table 1 of ISO/IEC 15693-3, clauses 8.5.2, 8.6.2
+//! and 8.6.4 of ISO/IEC 15693-2 and the C header. It works on sequences of
+//! single bits, digits, written digits, intervals and units, keeps what waits
+//! in sets and looks tracks up in a dictionary, so that it shares no way of
+//! working with the library. Clear, not fast.
 
 pub mod bench;
 pub mod card;
 pub mod check;
 pub mod coder;
+pub mod coil;
 pub mod decoder;
 pub mod field;
 pub mod reader;
@@ -39,9 +41,12 @@ pub enum Refusal {
     NoTrack = 9,
     Walk = 10,
     Answer = 11,
+    Coil = 12,
 }
 
 impl Refusal {
     /// A request that is not made: it has the coder's number.
     pub const REQUEST: Refusal = Refusal::FrameOrCoding;
+    /// An answer of another length than any has: the same.
+    pub const LENGTH: Refusal = Refusal::FrameOrCoding;
 }

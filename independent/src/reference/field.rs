@@ -23,25 +23,25 @@ pub fn card(uid: u64) -> Card {
     }
 }
 
+/// What a walk is told of the replies in a slot.
+pub type Air = fn(&[Vec<u8>]) -> Heard;
+
 /// Plays the walk to its end.
-pub fn play(walk: &mut Walk, cards: &mut [Card], list: &mut [u64]) {
+pub fn play(walk: &mut Walk, cards: &mut [Card], list: &mut [u64], air: Air) {
     loop {
         match walk.ask(ROOM).expect("room enough") {
             Sent::Nothing => return,
             sent => {
-                let heard = heard(cards, &sent);
+                let replies = cards.iter_mut().filter_map(|card| reply(card, &sent));
+                let heard = air(&replies.collect::<Vec<Vec<u8>>>());
                 walk.hear(&heard, list).expect("a running walk and a long list");
             }
         }
     }
 }
 
-fn heard(cards: &mut [Card], sent: &Sent) -> Heard {
-    let replies: Vec<Vec<u8>> = cards.iter_mut().filter_map(|card| reply(card, sent)).collect();
-    together(&replies)
-}
-
-/// One reply is heard whole; more are a clash, also when they are alike.
+/// The bench's air. One reply is heard whole; more are a clash, also when they
+/// are alike.
 pub fn together(replies: &[Vec<u8>]) -> Heard {
     match replies {
         [] => Heard::Silence,

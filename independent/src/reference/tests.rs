@@ -5,24 +5,28 @@ use std::collections::BTreeSet;
 use super::bench::{bench, Verdict};
 use super::card::{frame, Card, Said::Answer};
 use super::check::sealed;
-use super::field::{card, play};
+use super::field::{card, play, together, Air};
 use super::tails::{is_complete, rounds};
 use super::walk::{Ending, Walk, PLACES};
 use crate::crowds::{self, CROWDS};
 use crate::random::Random;
 
 /// By the walk and the cards.
-fn played(uids: &[u64]) -> Verdict {
-    let mut cards: Vec<Card> = uids.iter().map(|&uid| card(uid)).collect();
-    let mut walk = Walk::start(256);
+pub fn played(family: u16, mut cards: Vec<Card>, air: Air) -> Verdict {
+    let mut walk = Walk::start(family);
     let mut list = vec![0; PLACES];
-    play(&mut walk, &mut cards, &mut list);
+    play(&mut walk, &mut cards, &mut list, air);
     list.truncate(walk.listed);
     Verdict { ending: walk.ending.unwrap(), rounds: walk.rounds, list }
 }
 
+/// The same on the bench, with no family.
+fn on_the_bench(uids: &[u64]) -> Verdict {
+    played(256, uids.iter().map(|&uid| card(uid)).collect(), together)
+}
+
 fn agree(uids: &[u64]) {
-    let verdict = played(uids);
+    let verdict = on_the_bench(uids);
     assert_eq!(verdict, Verdict::of(uids), "{uids:016X?}");
     assert_eq!(verdict.ending == Ending::Complete, is_complete(uids), "{uids:016X?}");
     if verdict.ending == Ending::Complete {
@@ -45,7 +49,7 @@ fn walk_bench_and_counts_agree() {
 #[test]
 fn worst_field_takes_479_rounds() {
     let uids = crowds::worst(&mut Random::new(2), 66);
-    assert_eq!(played(&uids).rounds, 479);
+    assert_eq!(on_the_bench(&uids).rounds, 479);
 }
 
 #[test]
@@ -99,11 +103,10 @@ fn families_of_the_shops() {
 #[test]
 fn a_rack_asked_for_its_burrs() {
     let rack = [(0x11, 0x31), (0x21, 0x32), (0x05, 0x33), (0x15, 0x41)];
-    let mut cards: Vec<Card> = rack.iter().map(|&(uid, afi)| Card { afi, ..card(uid) }).collect();
-    let (mut walk, mut list) = (Walk::start(0x30), vec![0; PLACES]);
-    play(&mut walk, &mut cards, &mut list);
-    assert_eq!((walk.ending, walk.rounds), (Some(Ending::Complete), 2));
-    assert_eq!(list[..walk.listed], [0x05, 0x11, 0x21]);
+    let cards = rack.iter().map(|&(uid, afi)| Card { afi, ..card(uid) }).collect();
+    let list = vec![0x05, 0x11, 0x21];
+    let verdict = Verdict { ending: Ending::Complete, rounds: 2, list };
+    assert_eq!(played(0x30, cards, together), verdict);
 }
 
 #[test]
