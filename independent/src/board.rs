@@ -1,6 +1,7 @@
 //! The functions of the C header, as the archive exports them.
 
 pub mod card;
+pub mod coil;
 pub mod reader;
 pub mod walk;
 

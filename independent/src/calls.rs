@@ -2,6 +2,7 @@
 //! every byte of every lent buffer and its guards.
 
 mod card;
+pub mod coil;
 pub mod reader;
 mod walk;
 
@@ -29,6 +30,7 @@ pub struct Calls {
     card: card::Areas,
     walk: walk::Areas,
     reader: reader::Areas,
+    coil: coil::Areas,
 }
 
 impl Calls {
@@ -46,6 +48,7 @@ impl Calls {
             card: card::Areas::new(),
             walk: walk::Areas::new(),
             reader: reader::Areas::new(),
+            coil: coil::Areas::new(),
         }
     }
 
@@ -83,13 +86,7 @@ impl Calls {
     pub fn code(&mut self, frame: &[u8], coding: u32, room: usize) {
         self.input.lay(&mut self.noise, frame, 0..frame.len());
         self.coding.lay_room(&mut self.noise, room);
-        let expected = match code(frame, coding, room) {
-            Ok(track) => {
-                self.coding.expect(0, &track);
-                track.len() as i64
-            }
-            Err(refusal) => refused(refusal),
-        };
+        let expected = expect_bytes(&mut self.coding, &code(frame, coding, room));
         let null = self.null_when_empty;
         let said = board::code(self.input.lend(null), coding, self.coding.lend(null));
         let call = || format!("code, coding {coding}, room {room}\n  frame {}", show(frame));
@@ -120,6 +117,17 @@ impl Calls {
         let call = || format!("decode, room {room}\n  track {}", show(track));
         let areas = [&self.input, &self.decoding];
         judge(&mut self.tally, call, decimal, [said, expected], &areas);
+    }
+}
+
+/// Bytes that go to an area's start, or none: what the header gives back.
+fn expect_bytes(area: &mut Area, outcome: &Result<Vec<u8>, Refusal>) -> i64 {
+    match outcome {
+        Ok(bytes) => {
+            area.expect(0, bytes);
+            bytes.len() as i64
+        }
+        Err(refusal) => refused(*refusal),
     }
 }
 

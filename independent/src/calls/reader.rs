@@ -1,6 +1,6 @@
 //! The reader's two calls.
 
-use super::{decimal, judge, refused, Calls};
+use super::{decimal, expect_bytes, judge, refused, Calls};
 use crate::area::Area;
 use crate::board;
 use crate::board::reader::{Reading, BLOCKS, DONE, ERROR, INFORMATION, LOCKS};
@@ -35,13 +35,7 @@ impl Calls {
         input.lay(noise, data, 0..data.len());
         frame.lay_room(noise, room);
         let outcome = make(&request, data, room);
-        let expected = match &outcome {
-            Ok(bytes) => {
-                frame.expect(0, bytes);
-                bytes.len() as i64
-            }
-            Err(refusal) => refused(*refusal),
-        };
+        let expected = expect_bytes(frame, &outcome);
         let null = self.null_when_empty;
         let said = board::reader::make(request, input.lend(null), frame.lend(null));
         let call = || format!("make, room {room}, {request:X?}\n  data {}", show(data));
