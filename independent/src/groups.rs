@@ -3,7 +3,9 @@
 mod cards;
 mod checks;
 mod codings;
+mod coil;
 mod counts;
+mod damage;
 mod damaged_tracks;
 mod families;
 mod fields;
@@ -40,6 +42,9 @@ pub const GROUPS: &[(&str, Group)] = &[
     ("reader", reader::exchanges::run),
     ("reader, other answers", reader::answers::run),
     ("reader, requests not made", reader::making::run),
+    ("coil, coder", coil::coding::run),
+    ("coil, decoder", coil::decoding::run),
+    ("coil, overlays", coil::overlays::run),
 ];
 
 /// Bytes that tracks are made of, and some that almost are.

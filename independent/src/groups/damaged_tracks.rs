@@ -1,6 +1,6 @@
 //! Good tracks and what is left of them after one change.
 
-use super::PLAUSIBLE;
+use super::{damage, PLAUSIBLE};
 use crate::calls::Calls;
 use crate::random::Random;
 use crate::reference::coder::{track_of, Coding, CODINGS};
@@ -41,14 +41,7 @@ fn in_rooms(calls: &mut Calls, track: &[u8]) {
 }
 
 fn one_bit(calls: &mut Calls, track: &[u8]) {
-    let mut damaged = track.to_vec();
-    for place in 0..track.len() {
-        for bit in 0..8 {
-            damaged[place] = track[place] ^ (1 << bit);
-            calls.decode(&damaged, FRAME_MAX);
-        }
-        damaged[place] = track[place];
-    }
+    damage::one_bit(track, |damaged| calls.decode(damaged, FRAME_MAX));
 }
 
 fn tried(track: &[u8]) -> Vec<u8> {
@@ -85,14 +78,8 @@ fn extended(calls: &mut Calls, track: &[u8]) {
     }
 }
 
-/// Cut from the end, at the front, and in the middle. The bytes cut off at
-/// either end still stand next to the lent ones.
 fn cut(calls: &mut Calls, track: &[u8]) {
-    for place in 0..track.len() {
-        calls.decode_part(track, 0..place, FRAME_MAX);
-        calls.decode_part(track, place + 1..track.len(), FRAME_MAX);
-        calls.decode(&[&track[..place], &track[place + 1..]].concat(), FRAME_MAX);
-    }
+    damage::cut(track, |whole, part| calls.decode_part(whole, part, FRAME_MAX));
 }
 
 /// Tracks in all but the length. Some look short if upper bits are lost.

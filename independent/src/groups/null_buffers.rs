@@ -3,7 +3,7 @@
 use crate::calls::Calls;
 use crate::random::Random;
 use crate::reference::coder::{track_of, CODINGS};
-use crate::reference::FRAME_MAX;
+use crate::reference::{coil, FRAME_MAX};
 
 pub fn run(calls: &mut Calls, random: &mut Random) {
     calls.null_when_empty = true;
@@ -29,5 +29,21 @@ pub fn run(calls: &mut Calls, random: &mut Random) {
         }
     }
     calls.decode(&[0x20], 0);
+    on_the_coil(calls);
     calls.null_when_empty = false;
+}
+
+fn on_the_coil(calls: &mut Calls) {
+    for room in [0, 1, 2, 8, coil::LONGEST] {
+        let _ = calls.coil_code(&[], room);
+    }
+    for room in [0, 1, coil::LONGEST - 1, coil::LONGEST, coil::LONGEST + 1] {
+        calls.coil_decode(&[], room);
+    }
+    for length in (1..=20).chain(coil::LONGEST - 1..=coil::LONGEST + 1) {
+        let bytes = vec![0xE1; length];
+        let _ = calls.coil_code(&bytes, 0);
+        calls.coil_decode(&bytes, 0);
+        calls.coil_decode(&coil::track_of(&bytes), 0);
+    }
 }

@@ -25,7 +25,7 @@ pub fn run(calls: &mut Calls, random: &mut Random) {
 }
 
 /// Exact, larger, one short, none, and short by chance.
-fn rooms(random: &mut Random, needed: usize) -> [usize; 7] {
+pub fn rooms(random: &mut Random, needed: usize) -> [usize; 7] {
     let larger = needed + 1 + random.below(200);
     let short = [random.below(needed), random.below(needed)];
     [needed, needed + 1, larger, needed - 1, 0, short[0], short[1]]

@@ -1,5 +1,6 @@
 //! Sound frames, and frames that are not by a little.
 
+use super::damage;
 use crate::calls::Calls;
 use crate::random::Random;
 use crate::reference::check::sealed;
@@ -22,7 +23,7 @@ pub fn run(calls: &mut Calls, random: &mut Random) {
     }
     for length in [4, 5, 6, 12, 33, FRAME_MAX, FRAME_MAX + 1] {
         let frame = rightly_checked(random, length);
-        one_bit(calls, &frame);
+        damage::one_bit(&frame, |damaged| calls.is_sound(damaged));
         cut_and_grown(calls, random, &frame);
     }
 }
@@ -49,17 +50,6 @@ fn wrongly_checked(calls: &mut Calls, frame: &[u8]) {
         with([low ^ by, high ^ by]);
         with([low ^ by, high]);
         with([low, high ^ by]);
-    }
-}
-
-fn one_bit(calls: &mut Calls, frame: &[u8]) {
-    let mut damaged = frame.to_vec();
-    for place in 0..frame.len() {
-        for bit in 0..8 {
-            damaged[place] = frame[place] ^ (1 << bit);
-            calls.is_sound(&damaged);
-        }
-        damaged[place] = frame[place];
     }
 }
 
