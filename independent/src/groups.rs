@@ -45,6 +45,7 @@ pub const GROUPS: &[(&str, Group)] = &[
     ("coil, coder", coil::coding::run),
     ("coil, decoder", coil::decoding::run),
     ("coil, overlays", coil::overlays::run),
+    ("fields on the coil", fields::coil::run),
 ];
 
 /// Bytes that tracks are made of, and some that almost are.

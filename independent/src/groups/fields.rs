@@ -1,6 +1,9 @@
 //! The archive's walk over the archive's cards, with nothing but bytes between
 //! them, against what sets and counts of the UIDs say.
 
+pub mod coil;
+
+mod air;
 mod built;
 mod expected;
 mod families;
@@ -10,31 +13,33 @@ use crate::crowds::{shuffle, with_digit, CROWDS};
 use crate::groups::counts::Counts;
 use crate::random::Random;
 use crate::reference::walk::PLACES;
+use air::Air;
 use built::{Built, BuiltCard, NO_FAMILY, QUIET, READY, SELECTED};
 
 const FIELDS: usize = 20_000;
 
 pub fn run(calls: &mut Calls, random: &mut Random) {
-    let mut counts = expected::counts();
+    let mut counts = expected::counts(Air::Bench);
     for _ in 0..FIELDS {
         let field = any(random);
-        judge(calls, &mut counts, field);
+        judge(calls, &mut counts, Air::Bench, field);
     }
-    for uids in every_small_field() {
+    for uids in up_to_four(&crowded(), false) {
         let cards = uids.iter().map(|&uid| BuiltCard::new(random, uid, READY, 0)).collect();
-        judge(calls, &mut counts, Built::new(random, cards, NO_FAMILY));
+        judge(calls, &mut counts, Air::Bench, Built::new(random, cards, NO_FAMILY));
     }
     counts.end(&mut calls.tally, "kinds of fields");
 }
 
-fn judge(calls: &mut Calls, counts: &mut Counts, mut field: Built) {
+fn judge(calls: &mut Calls, counts: &mut Counts, air: Air, mut field: Built) {
     let before = field.clone();
-    let fault = match field.play() {
-        Ok(()) => expected::fault(&before, &field, counts),
+    let fault = match field.play(air) {
+        Ok(()) => expected::fault(air, &before, &field, counts),
         Err(fault) => Some(fault),
     };
     calls.tally.count(fault.is_none(), || {
-        format!("field, family {:X}: {}\n{}", before.family, fault.unwrap(), before.show())
+        let (family, fault) = (before.family, fault.unwrap());
+        format!("field, air {air:?}, family {family:X}: {fault}\n{}", before.show())
     });
 }
 
@@ -76,27 +81,29 @@ fn any(random: &mut Random) -> Built {
     Built::new(random, cards, family)
 }
 
-/// Every field of up to four cards over these UIDs, alike ones too.
-fn every_small_field() -> Vec<Vec<u64>> {
+/// One UID, and others that leave it at some digits.
+fn crowded() -> Vec<u64> {
     let one = 0xE004_0100_0000_0011;
     let mut crowded = vec![one, u64::MAX, 0];
     for places in [&[0][..], &[1], &[2], &[7], &[8], &[13], &[14], &[15], &[0, 15], &[1, 14]] {
         crowded.push(places.iter().fold(one, |uid, &place| with_digit(uid, place, 0xA)));
     }
     crowded.push(with_digit(one, 15, 0xB));
-    let mut fields: Vec<Vec<u64>> = vec![Vec::new()];
-    let mut begun = 0;
-    for _ in 0..4 {
-        let shorter = fields[begun..].to_vec();
-        begun = fields.len();
-        for field in shorter {
-            let last = field.last().map_or(0, |last| position(&crowded, *last));
-            fields.extend(crowded[last..].iter().map(|&uid| [&field[..], &[uid]].concat()));
-        }
-    }
-    fields
+    crowded
 }
 
-fn position(row: &[u64], uid: u64) -> usize {
-    row.iter().position(|&other| other == uid).expect("one of the row")
+/// Up to four of a row in every way, alike ones too: in every order, or in the
+/// row's alone.
+fn up_to_four<One: Copy>(row: &[One], in_every_order: bool) -> Vec<Vec<One>> {
+    let mut ways: Vec<Vec<usize>> = vec![Vec::new()];
+    let mut begun = 0;
+    for _ in 0..4 {
+        let shorter = ways[begun..].to_vec();
+        begun = ways.len();
+        for way in shorter {
+            let least = if in_every_order { 0 } else { way.last().copied().unwrap_or(0) };
+            ways.extend((least..row.len()).map(|place| [&way[..], &[place]].concat()));
+        }
+    }
+    ways.into_iter().map(|way| way.into_iter().map(|place| row[place]).collect()).collect()
 }

@@ -1,11 +1,12 @@
 //! A field of the archive's own: its walk and its cards.
 
+use super::air::Air;
 use crate::board::{card, walk, Lent};
 use crate::crowds;
 use crate::notation::show;
 use crate::random::Random;
 use crate::reference::walk::record::RECORD;
-use crate::reference::walk::{PLACES, ROUNDS};
+use crate::reference::walk::{Heard, PLACES, ROUNDS};
 
 pub const READY: u8 = 0;
 pub const QUIET: u8 = 1;
@@ -41,6 +42,14 @@ impl BuiltCard {
         record[32..].fill(0);
         let locks = (0..blocks).map(|_| random.byte() % 2).collect();
         BuiltCard { uid, mode, afi, record, memory: random.bytes(blocks * size), locks }
+    }
+
+    pub fn dsfid(&self) -> u8 {
+        self.record[17]
+    }
+
+    pub fn set_dsfid(&mut self, dsfid: u8) {
+        self.record[17] = dsfid;
     }
 
     /// The answer to a frame, or to a slot mark if there is none.
@@ -85,7 +94,7 @@ impl Built {
     }
 
     /// Plays the walk to its end.
-    pub fn play(&mut self) -> Result<(), String> {
+    pub fn play(&mut self, air: Air) -> Result<(), String> {
         for _ in 0..=16 * ROUNDS {
             let mut room = [0; 14];
             let told = walk::ask(Lent::of(&mut self.record.0), Lent::of(&mut room));
@@ -100,10 +109,10 @@ impl Built {
                 replies.extend(card.reply(request.map(|length| &mut room[..length]))?);
             }
             let (record, list) = (Lent::of(&mut self.record.0), Lent::of(&mut self.list.0));
-            let said = match &mut replies[..] {
-                [] => walk::hear_silence(record, list),
-                [one] => walk::hear_bytes(record, Lent::of(one), list),
-                _ => walk::hear_clash(record, list),
+            let said = match air.heard(&mut replies)? {
+                Heard::Silence => walk::hear_silence(record, list),
+                Heard::Clash => walk::hear_clash(record, list),
+                Heard::Bytes(mut bytes) => walk::hear_bytes(record, Lent::of(&mut bytes), list),
             };
             if said != 0 {
                 return Err(format!("the walk, hearing, said {said}"));

@@ -1,19 +1,21 @@
-//! What must be found after a field's walk, from its list of UIDs alone: by sets
-//! and counts, and by the field taken apart as the reference's bench does it.
+//! What must be found after a field's walk, from the UIDs of what counts alone:
+//! by sets and counts, and by the field taken apart as the reference's bench does
+//! it.
 
 use std::collections::BTreeMap;
 
+use super::air::Air;
 use super::built::{Built, BuiltCard, NO_FAMILY, QUIET, SELECTED};
-use super::families;
+use super::{coil, families};
 use crate::afi;
 use crate::groups::counts::Counts;
 use crate::reference::bench::Verdict;
 use crate::reference::tails::{all_differ, is_complete, rounds};
 use crate::reference::walk::{Ending, PLACES};
 
-const COMPLETE: u8 = 1;
-const TWINS: u8 = 2;
-const FULL: u8 = 3;
+pub const COMPLETE: u8 = 1;
+pub const TWINS: u8 = 2;
+pub const FULL: u8 = 3;
 const OVERRUN: u8 = 4;
 
 const KINDS: [&str; 18] = [
@@ -37,10 +39,10 @@ const KINDS: [&str; 18] = [
     "sequence or held answer before",
 ];
 
-pub fn counts() -> Counts {
+pub fn counts(air: Air) -> Counts {
     let mut counts = Counts::default();
-    for kind in KINDS {
-        counts.expect(kind);
+    for kind in KINDS.iter().chain(air.kinds()) {
+        counts.expect(*kind);
     }
     for kind in families::KINDS {
         counts.expect_times(kind, families::OFTEN..=u64::MAX);
@@ -54,16 +56,19 @@ fn takes_part(card: &BuiltCard, family: u16) -> bool {
 }
 
 /// What is wrong after the walk, if anything is.
-pub fn fault(before: &Built, after: &Built, counts: &mut Counts) -> Option<String> {
+pub fn fault(air: Air, before: &Built, after: &Built, counts: &mut Counts) -> Option<String> {
     let family = before.family;
-    let answering: Vec<u64> =
-        before.cards.iter().filter(|card| takes_part(card, family)).map(|card| card.uid).collect();
+    let called = || before.cards.iter().filter(|card| takes_part(card, family));
+    let answering = air.counted(called());
     let [count, ending] = after.record.0[46..] else { unreachable!() };
     let (listed, rest) = after.list.0.split_at(8 * usize::from(count).min(PLACES));
     let listed: Vec<u64> =
         listed.chunks(8).map(|place| u64::from_le_bytes(place.try_into().unwrap())).collect();
     let met = u16::from_le_bytes([after.record.0[40], after.record.0[41]]).into();
-    count_kinds(counts, before, &answering, ending, met);
+    count_kinds(counts, air, before, &answering, ending, met);
+    if let Air::Coil = air {
+        coil::count_kinds(counts, called(), ending);
+    }
 
     let right = match (is_complete(&answering), answering.len() <= PLACES) {
         (true, _) => ending == COMPLETE,
@@ -118,11 +123,18 @@ fn cards_are_right(before: &Built, after: &Built) -> bool {
     })
 }
 
-fn count_kinds(counts: &mut Counts, field: &Built, answering: &[u64], ending: u8, met: usize) {
+fn count_kinds(
+    counts: &mut Counts,
+    air: Air,
+    field: &Built,
+    answering: &[u64],
+    ending: u8,
+    met: usize,
+) {
     let (cards, family, many) = (&field.cards, field.family, answering.len());
     let (complete, twins, full) = (ending == COMPLETE, ending == TWINS, ending == FULL);
     let differ = all_differ(answering);
-    let all: Vec<u64> = cards.iter().map(|card| card.uid).collect();
+    let all = air.counted(cards.iter());
     let asked = (1..NO_FAMILY).contains(&family);
     let of_family = |card: &BuiltCard| afi::calls(family, card.afi);
     let kinds = [
