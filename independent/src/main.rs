@@ -53,7 +53,7 @@ fn run() -> Result<bool, String> {
     };
     let (checks, tracks) = (vectors::checks(&folder)?, vectors::tracks(&folder)?);
     let (cards, walks) = (vectors::cards(&folder)?, vectors::walk::walks(&folder)?);
-    let readers = vectors::reader::readers(&folder)?;
+    let (readers, coils) = (vectors::reader::readers(&folder)?, vectors::coil::coils(&folder)?);
 
     println!("seed: {seed}");
     let mut calls = Calls::new(seed);
@@ -68,6 +68,8 @@ fn run() -> Result<bool, String> {
     calls.tally.end_group("vectors of walks");
     published::run_readers(&mut calls, &readers);
     calls.tally.end_group("vectors of the reader");
+    published::run_coils(&mut calls, &coils);
+    calls.tally.end_group("vectors of the coil");
     for (name, group) in GROUPS {
         group(&mut calls, &mut random);
         calls.tally.end_group(name);

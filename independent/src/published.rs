@@ -1,6 +1,7 @@
 //! Runs the vectors. The reference is held against the vector and the board
 //! against the reference, so both must say what the vector says.
 
+mod coil;
 mod reader;
 mod walk;
 
@@ -13,6 +14,7 @@ use crate::reference::decoder::{Decoded, Decoder};
 use crate::reference::record::Tag;
 use crate::reference::{Refusal, FRAME_MAX};
 use crate::vectors::{CardStep, CheckCase, Side, TrackCase};
+pub use coil::run_coils;
 pub use reader::run_readers;
 pub use walk::run_walks;
 

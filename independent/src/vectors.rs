@@ -1,10 +1,12 @@
 //! Reads the vector files. Their heads say what a line holds.
 
+pub mod coil;
 pub mod reader;
 pub mod walk;
 
 use std::fs;
 use std::path::Path;
+use std::str::FromStr;
 
 use crate::notation::parse;
 use crate::reference::check::sealed;
@@ -51,10 +53,7 @@ pub fn cards(folder: &Path) -> Result<Vec<(String, CardStep)>, String> {
             let event = match *event {
                 "slot mark" => Event::Mark,
                 "power off" => Event::PowerOff,
-                frame => match frame.strip_prefix("as it stands ") {
-                    Some(whole) => Event::Frame(parse(whole)?),
-                    None => Event::Frame(sealed(&parse(frame)?)),
-                },
+                frame => Event::Frame(whole(frame)?),
             };
             let answer = match *answer {
                 "silence" => None,
@@ -100,12 +99,40 @@ fn side(text: &str) -> Result<Side, String> {
     if text == "slot mark" {
         return Ok(Side::SlotMark);
     }
-    match text.strip_prefix("refused ") {
-        Some(number) => {
-            number.parse().map(Side::Refused).map_err(|_| format!("no number: {number}"))
-        }
+    match refusal(text)? {
+        Some(number) => Ok(Side::Refused(number)),
         None => parse(text).map(Side::Bytes),
     }
+}
+
+/// Bytes to which the check is added, or "as it stands" and all bytes.
+fn whole(text: &str) -> Result<Vec<u8>, String> {
+    match text.strip_prefix("as it stands ") {
+        Some(whole) => parse(whole),
+        None => Ok(sealed(&parse(text)?)),
+    }
+}
+
+fn refusal(text: &str) -> Result<Option<u8>, String> {
+    text.strip_prefix("refused ").map(decimal).transpose()
+}
+
+fn byte(digits: &str) -> Result<u8, String> {
+    match parse(digits)?[..] {
+        [byte] => Ok(byte),
+        _ => Err(format!("no byte: {digits}")),
+    }
+}
+
+fn uid(digits: &str) -> Result<u64, String> {
+    match (digits.len(), u64::from_str_radix(digits, 16)) {
+        (16, Ok(uid)) => Ok(uid),
+        _ => Err(format!("no UID: {digits}")),
+    }
+}
+
+fn decimal<Number: FromStr>(number: &str) -> Result<Number, String> {
+    number.parse().map_err(|_| format!("no number: {number}"))
 }
 
 /// The cases of a file: its lines without comments, cut at the bars.

@@ -15,6 +15,17 @@ use crate::vectors::walk::{End, WalkStep};
 /// The least that a card asks for.
 const CARD_ROOM: usize = 32;
 
+/// What a walk is told of the replies in a slot.
+pub type Air = fn(&mut Calls, &[Vec<u8>]) -> Heard;
+
+/// Cards, and the UIDs of what counts of them on their air.
+pub struct Field {
+    pub family: u16,
+    pub cards: Vec<Card>,
+    pub counted: Vec<u64>,
+    pub air: Air,
+}
+
 /// A walk's record and its list.
 struct Reader {
     record: Vec<u8>,
@@ -35,17 +46,27 @@ pub fn run_walks(calls: &mut Calls, steps: &[(String, WalkStep)]) {
             WalkStep::End(end) => reader.ended(calls, place, end),
             WalkStep::Field(family, cards, end) => {
                 let called = cards.iter().filter(|(_, own)| afi::calls(*family, *own));
-                let said = Verdict::of(&called.map(|(uid, _)| *uid).collect::<Vec<u64>>());
-                let right =
-                    (said.ending, said.rounds, &said.list) == (end.ending, end.rounds, &end.list);
-                agree(calls, place, right, || format!("{said:X?}"));
-
-                reader = Reader::start(calls, *family);
-                reader.play(calls, &mut cards.iter().map(tag).collect::<Vec<Tag>>());
-                reader.ended(calls, place, end);
+                let field = Field {
+                    family: *family,
+                    cards: cards.iter().map(|&(uid, afi)| Card { afi, ..card(uid) }).collect(),
+                    counted: called.map(|(uid, _)| *uid).collect(),
+                    air: |_, replies| together(replies),
+                };
+                run_field(calls, place, field, end);
             }
         }
     }
+}
+
+pub fn run_field(calls: &mut Calls, place: &str, field: Field, end: &End) {
+    let said = Verdict::of(&field.counted);
+    let right = (said.ending, said.rounds, &said.list) == (end.ending, end.rounds, &end.list);
+    agree(calls, place, right, || format!("{said:X?}"));
+
+    let mut reader = Reader::start(calls, field.family);
+    let mut cards: Vec<Tag> = field.cards.iter().map(tag).collect();
+    reader.play(calls, &mut cards, field.air);
+    reader.ended(calls, place, end);
 }
 
 impl Reader {
@@ -70,9 +91,10 @@ impl Reader {
     }
 
     /// To the end among cards, with nothing but bytes between.
-    fn play(&mut self, calls: &mut Calls, cards: &mut [Tag]) {
+    fn play(&mut self, calls: &mut Calls, cards: &mut [Tag], air: Air) {
         while let Ok(sent @ (Sent::Request(_) | Sent::SlotMark)) = self.ask(calls) {
-            let heard = heard(calls, cards, sent);
+            let replies = replies(calls, cards, sent);
+            let heard = air(calls, &replies);
             if self.hear(calls, &heard).is_err() {
                 break;
             }
@@ -85,7 +107,7 @@ impl Reader {
 }
 
 /// What the cards say, by the reference and by the board.
-fn heard(calls: &mut Calls, cards: &mut [Tag], sent: Sent) -> Heard {
+fn replies(calls: &mut Calls, cards: &mut [Tag], sent: Sent) -> Vec<Vec<u8>> {
     let event = match sent {
         Sent::Request(request) => Event::Frame(request),
         _ => Event::Mark,
@@ -94,11 +116,11 @@ fn heard(calls: &mut Calls, cards: &mut [Tag], sent: Sent) -> Heard {
         Ok(Said::Answer(_, bytes)) => Some(bytes),
         _ => None,
     };
-    together(&cards.iter_mut().filter_map(reply).collect::<Vec<_>>())
+    cards.iter_mut().filter_map(reply).collect()
 }
 
-fn tag(&(uid, afi): &(u64, u8)) -> Tag {
+fn tag(card: &Card) -> Tag {
     let mut record = vec![0; record::RECORD];
-    record::write(&Card { afi, ..card(uid) }, &mut record);
+    record::write(card, &mut record);
     Tag { record, memory: vec![0], locks: vec![0] }
 }

@@ -2,7 +2,7 @@
 
 use std::path::Path;
 
-use super::cases;
+use super::{byte, cases, decimal, refusal, uid, whole};
 use crate::notation::parse;
 use crate::reference::check::sealed;
 use crate::reference::reader::{Information, Read, Request, MADE_MAX};
@@ -27,12 +27,12 @@ pub fn readers(folder: &Path) -> Result<Vec<(String, ReaderStep)>, String> {
                 };
                 ReaderStep::Make(request, data, room, frame)
             }
-            [answer, said] => ReaderStep::Read(answering(answer)?, reading(said)?, None),
+            [answer, said] => ReaderStep::Read(whole(answer)?, reading(said)?, None),
             [answer, said, rooms] => {
                 let rooms = rooms.strip_prefix("rooms ").and_then(|rooms| rooms.split_once(' '));
                 let Some((blocks, locks)) = rooms else { return Err("no rooms".to_string()) };
                 let rooms = (decimal(blocks)?, decimal(locks)?);
-                ReaderStep::Read(answering(answer)?, reading(said)?, Some(rooms))
+                ReaderStep::Read(whole(answer)?, reading(said)?, Some(rooms))
             }
             _ => return Err("neither a request nor an answer".to_string()),
         };
@@ -64,13 +64,6 @@ fn asking(text: &str) -> Result<(Request, Vec<u8>, usize), String> {
     Ok((request, data, room))
 }
 
-fn answering(text: &str) -> Result<Vec<u8>, String> {
-    match text.strip_prefix("as it stands ") {
-        Some(whole) => parse(whole),
-        None => Ok(sealed(&parse(text)?)),
-    }
-}
-
 fn reading(text: &str) -> Result<Result<Read, u8>, String> {
     if let Some(number) = refusal(text)? {
         return Ok(Err(number));
@@ -98,26 +91,4 @@ fn reading(text: &str) -> Result<Result<Read, u8>, String> {
         }
         _ => return Err(format!("no reading: {text}")),
     }))
-}
-
-fn refusal(text: &str) -> Result<Option<u8>, String> {
-    text.strip_prefix("refused ").map(decimal).transpose()
-}
-
-fn byte(digits: &str) -> Result<u8, String> {
-    match parse(digits)?[..] {
-        [byte] => Ok(byte),
-        _ => Err(format!("no byte: {digits}")),
-    }
-}
-
-fn uid(digits: &str) -> Result<u64, String> {
-    match (digits.len(), u64::from_str_radix(digits, 16)) {
-        (16, Ok(uid)) => Ok(uid),
-        _ => Err(format!("no UID: {digits}")),
-    }
-}
-
-fn decimal<Number: std::str::FromStr>(number: &str) -> Result<Number, String> {
-    number.parse().map_err(|_| format!("no number: {number}"))
 }

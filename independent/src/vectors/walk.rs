@@ -2,7 +2,7 @@
 
 use std::path::Path;
 
-use super::cases;
+use super::{byte, cases, uid, whole};
 use crate::notation::parse;
 use crate::reference::check::sealed;
 use crate::reference::walk::{Ending, Heard, Sent};
@@ -41,14 +41,7 @@ pub fn walks(folder: &Path) -> Result<Vec<(String, WalkStep)>, String> {
 fn family(text: &str) -> Result<u16, String> {
     match text {
         "none" => Ok(u16::MAX),
-        afi => self::afi(afi).map(u16::from),
-    }
-}
-
-fn afi(text: &str) -> Result<u8, String> {
-    match parse(text)?[..] {
-        [afi] => Ok(afi),
-        _ => Err(format!("no AFI: {text}")),
+        afi => byte(afi).map(u16::from),
     }
 }
 
@@ -63,14 +56,11 @@ fn hearing(text: &str) -> Result<Heard, String> {
     match text {
         "silence" => Ok(Heard::Silence),
         "clash" => Ok(Heard::Clash),
-        reply => match reply.strip_prefix("as it stands ") {
-            Some(whole) => parse(whole).map(Heard::Bytes),
-            None => Ok(Heard::Bytes(sealed(&parse(reply)?))),
-        },
+        reply => whole(reply).map(Heard::Bytes),
     }
 }
 
-fn end(ending: &str, rounds: &str, list: &str) -> Result<End, String> {
+pub fn end(ending: &str, rounds: &str, list: &str) -> Result<End, String> {
     let ending = match ending {
         "complete" => Ending::Complete,
         "twins" => Ending::Twins,
@@ -82,7 +72,7 @@ fn end(ending: &str, rounds: &str, list: &str) -> Result<End, String> {
     Ok(End { ending, rounds, list: words(list, uid)? })
 }
 
-fn words<Word>(
+pub fn words<Word>(
     text: &str,
     read: impl Fn(&str) -> Result<Word, String>,
 ) -> Result<Vec<Word>, String> {
@@ -92,16 +82,10 @@ fn words<Word>(
     }
 }
 
-fn card(word: &str) -> Result<(u64, u8), String> {
+/// A UID, and a byte behind it if there is one.
+pub fn card(word: &str) -> Result<(u64, u8), String> {
     match word.split_once('/') {
-        Some((card, own)) => Ok((uid(card)?, afi(own)?)),
+        Some((card, own)) => Ok((uid(card)?, byte(own)?)),
         None => Ok((uid(word)?, 0x00)),
-    }
-}
-
-fn uid(word: &str) -> Result<u64, String> {
-    match (word.len(), u64::from_str_radix(word, 16)) {
-        (16, Ok(uid)) => Ok(uid),
-        _ => Err(format!("no UID: {word}")),
     }
 }
