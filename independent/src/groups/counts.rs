@@ -41,6 +41,13 @@ impl Counts {
         }
     }
 
+    /// One more of each row of these that holds.
+    pub fn rows<const MANY: usize>(&mut self, rows: [&str; MANY], hold: [bool; MANY]) {
+        for (row, _) in rows.iter().zip(hold).filter(|(_, holds)| *holds) {
+            self.row(row);
+        }
+    }
+
     pub fn cell(&mut self, table: &'static str, cell: &str) {
         match self.cells.get_mut(table).and_then(|cells| cells.get_mut(cell)) {
             Some(count) => *count += 1,

@@ -67,8 +67,6 @@ fn in_rooms(calls: &mut Calls, random: &mut Random, counts: &mut Counts, answer:
             eight && room == needed - 1,
             eight && room == 0,
         ];
-        for (kind, _) in KINDS.iter().zip(kinds).filter(|(_, holds)| *holds) {
-            counts.row(kind);
-        }
+        counts.rows(KINDS, kinds);
     }
 }

@@ -85,7 +85,7 @@ pub fn count_kinds<'a>(
     let uids: BTreeSet<u64> = pairs.iter().map(|(uid, _)| *uid).collect();
     let alike = answers.len() < pairs.len();
     let (complete, twins, full) = (ending == COMPLETE, ending == TWINS, ending == FULL);
-    let hold = [
+    let kinds = [
         complete && alike,
         complete && alike && answers.len() == 1,
         complete && pairs.len() > PLACES,
@@ -94,7 +94,5 @@ pub fn count_kinds<'a>(
         twins && uids.len() + 1 < answers.len(),
         full && alike,
     ];
-    for (kind, _) in KINDS.iter().zip(hold).filter(|(_, holds)| *holds) {
-        counts.row(kind);
-    }
+    counts.rows(KINDS, kinds);
 }

@@ -157,9 +157,7 @@ fn count_kinds(
         asked && cards.iter().any(of_family),
         cards.iter().any(|card| card.record[22] > 0 || card.record[25] > 0),
     ];
-    for (kind, _) in KINDS.iter().zip(kinds).filter(|(_, holds)| *holds) {
-        counts.row(kind);
-    }
+    counts.rows(KINDS, kinds);
     if let Some(kind) = families::kind(field) {
         counts.row(kind);
     }

@@ -1,5 +1,6 @@
 //! The kinds of tracks that must come up.
 
+use super::{CLASH, END, LOST, START};
 use crate::groups::counts::Counts;
 use crate::reference::coil::{Decoded, LONGEST, SHORTEST};
 use crate::reference::Refusal;
@@ -50,7 +51,7 @@ impl Kinds {
         match outcome {
             Ok(Decoded::Answer(bytes)) => {
                 let kinds = [true, bytes.len() == SHORTEST, bytes.len() == LONGEST];
-                self.rows(&ANSWERS, &kinds);
+                self.0.rows(ANSWERS, kinds);
             }
             Ok(Decoded::Clash(place)) => self.fault(FAULTS[0], track, *place),
             Ok(Decoded::Lost(place)) => self.fault(FAULTS[1], track, *place),
@@ -58,19 +59,13 @@ impl Kinds {
         }
     }
 
-    fn rows(&mut self, kinds: &[&str], hold: &[bool]) {
-        for (kind, _) in kinds.iter().zip(hold).filter(|(_, holds)| **holds) {
-            self.0.row(kind);
-        }
-    }
-
     fn fault(&mut self, fault: &str, track: &[u8], place: usize) {
         let pairs = pairs(track);
         let later = &pairs[place + 1..];
-        let hold = [true, place == 0, later.is_empty(), later.contains(&3), later.contains(&0)];
-        for (bit, _) in BITS.iter().zip(hold).filter(|(_, holds)| *holds) {
-            self.0.row(&format!("{fault}{bit}"));
-        }
+        let kinds =
+            [true, place == 0, later.is_empty(), later.contains(&CLASH), later.contains(&LOST)];
+        let rows = BITS.map(|bit| format!("{fault}{bit}"));
+        self.0.rows(rows.each_ref().map(String::as_str), kinds);
         if pairs.len() == 8 * SHORTEST {
             self.0.cell(PLACES, &format!("{fault} at {place}"));
         }
@@ -78,12 +73,12 @@ impl Kinds {
 
     fn refused(&mut self, track: &[u8], room: usize, refusal: Refusal) {
         let (eight, twelve) = (refusal == Refusal::Room, refusal == Refusal::Coil);
-        let (start, end) = (track.first() == Some(&0x1D), track.last() == Some(&0xB8));
+        let (start, end) = (track.first() == Some(&START), track.last() == Some(&END));
         let even = track.len().is_multiple_of(2);
         let (short, long) = (track.len() < 2 + 2 * SHORTEST, track.len() > 3 + 2 * LONGEST);
         let length = even && !short && !long;
-        let spoilt = || pairs(track).iter().any(|pair| [0, 3].contains(pair));
-        let hold = [
+        let spoilt = || pairs(track).iter().any(|pair| [CLASH, LOST].contains(pair));
+        let kinds = [
             eight && room == 0,
             eight && room == LONGEST - 1,
             eight && !(start && end && length),
@@ -95,7 +90,7 @@ impl Kinds {
             twelve && start && end && even && long,
             twelve && spoilt(),
         ];
-        self.rows(&REFUSALS, &hold);
+        self.0.rows(REFUSALS, kinds);
     }
 
     pub fn end(&self, tally: &mut Tally) {
