@@ -14,9 +14,6 @@ use kinds::Kinds;
 const LENGTHS: [usize; 10] = [3, 4, 5, 6, 7, 8, 12, 16, 33, 64];
 const TRACKS_EACH: usize = 30;
 
-/// Some would look right if their upper bits were lost.
-const OVERLONG: [usize; 5] = [8455, 32_771, 32_780, 41_219, 65_539];
-
 const OF_PAIRS: usize = 1_000_000;
 const OF_BYTES_EACH: usize = 400;
 const MOST_BYTES: usize = 40;
@@ -56,10 +53,11 @@ pub fn run(calls: &mut Calls, random: &mut Random) {
         }
     }
     damaged::every_start_and_end(decoding, random);
-    for length in (LONGEST - 3..=LONGEST + 3).chain(OVERLONG) {
+    for length in LONGEST - 3..=LONGEST + 3 {
         let track = track_of(&random.bytes(length));
         damaged::long(decoding, random, &track);
     }
+    damaged::far_too_long(decoding, random);
     for _ in 0..OF_PAIRS {
         let (track, room) = (of_pairs(random), any_room(random));
         decoding.decode_into(&track, room);

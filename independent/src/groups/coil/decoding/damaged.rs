@@ -3,7 +3,7 @@
 use super::{Decoding, CLASH, END, LOST, START};
 use crate::groups::damage;
 use crate::random::Random;
-use crate::reference::coil::{track_of, LONGEST};
+use crate::reference::coil::{track_of, LONGEST, SHORTEST};
 
 /// Up to here every two bits are tried, above only some.
 const FEW_BITS: usize = 24;
@@ -152,4 +152,20 @@ pub fn long(decoding: &mut Decoding, random: &mut Random, track: &[u8]) {
     decoding.decode(&[head, &[0x6A], tail].concat());
     decoding.decode(&[head, &[END ^ 1]].concat());
     decoding.decode(&[&[START ^ 0x80], &track[1..]].concat());
+}
+
+/// Right but for the length, also where its upper bits are lost: there stands a
+/// whole track then.
+pub fn far_too_long(decoding: &mut Decoding, random: &mut Random) {
+    for length in [SHORTEST, 12, LONGEST] {
+        for more in [65_536, 131_072] {
+            let track = track_of(&random.bytes(length));
+            let rest = track_of(&random.bytes(more / 2));
+            let whole = [&track, &rest[2..]].concat();
+            for room in [LONGEST, LONGEST + more] {
+                decoding.decode_into(&whole, room);
+                decoding.decode_into(&with(&whole, &[(0, CLASH)]), room);
+            }
+        }
+    }
 }
