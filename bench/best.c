@@ -279,7 +279,7 @@ int64_t best_coil_decode(const uint8_t *restrict track, size_t length,
     if (length < EK_COIL_TRACK(EK_ANSWER_MIN) || length > EK_COIL_TRACK_MAX ||
         length % 2 != 0 || track[0] != EK_COIL_START ||
         track[length - 1] != EK_COIL_END) {
-        return EK_REFUSED_NO_COIL_TRACK;
+        return EK_REFUSED_NO_ANSWER_TRACK;
     }
     const uint8_t *pairs = track + 1;
     size_t n = (length - 2) / 2;

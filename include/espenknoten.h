@@ -67,7 +67,7 @@ uint32_t ek_version(void);
  *   ek_make          EK_REFUSED_REQUEST, EK_REFUSED_ROOM
  *   ek_read          EK_REFUSED_REQUEST, EK_REFUSED_ROOM, EK_REFUSED_ANSWER
  *   ek_coil_code     EK_REFUSED_ANSWER_LENGTH, EK_REFUSED_ROOM
- *   ek_coil_decode   EK_REFUSED_ROOM, EK_REFUSED_NO_COIL_TRACK
+ *   ek_coil_decode   EK_REFUSED_ROOM, EK_REFUSED_NO_ANSWER_TRACK
  *
  * All others refuse nothing.
  */
@@ -84,7 +84,7 @@ uint32_t ek_version(void);
 #define EK_REFUSED_NO_TRACK (-9)        /* not a track */
 #define EK_REFUSED_WALK (-10)           /* a walk's record, see below */
 #define EK_REFUSED_ANSWER (-11)         /* not an answer to the request */
-#define EK_REFUSED_NO_COIL_TRACK (-12)  /* wrong start, end or length */
+#define EK_REFUSED_NO_ANSWER_TRACK (-12) /* wrong start, end or length */
 
 /* The longest frame, in bytes. */
 #define EK_FRAME_MAX 64
@@ -666,7 +666,7 @@ struct ek_reading ek_read(struct ek_request request, const uint8_t *answer,
  *   no subcarrier                              ek_walk_hear_silence
  *   EK_COIL_KIND(r) is EK_COIL_ANSWER          ek_walk_hear_bytes
  *   it is EK_COIL_CLASH or EK_COIL_LOST        ek_walk_hear_clash
- *   r is EK_REFUSED_NO_COIL_TRACK              ek_walk_hear_clash
+ *   r is EK_REFUSED_NO_ANSWER_TRACK            ek_walk_hear_clash
  */
 #define EK_COIL_START 0x1D
 #define EK_COIL_END 0xB8
@@ -699,7 +699,7 @@ int64_t ek_coil_code(const uint8_t *answer, size_t length, uint8_t *track,
  * lowest bit 0: up to 67,607. The kind of a refusal is -1, so that it is never
  * taken for an answer; its EK_COIL_NUMBER tells nothing.
  * EK_REFUSED_ROOM: room is less than EK_ANSWER_MAX, whatever the track is.
- * EK_REFUSED_NO_COIL_TRACK, looked for after that: the first byte is not
+ * EK_REFUSED_NO_ANSWER_TRACK, looked for after that: the first byte is not
  * EK_COIL_START, or the last not EK_COIL_END, or length is not that of the
  * track of an answer.
  */

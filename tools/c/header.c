@@ -1179,7 +1179,7 @@ static void orders_of_coil(void)
     MUST(ek_coil_decode(NULL, 0, coil_back, EK_ANSWER_MAX - 1) ==
          EK_REFUSED_ROOM);
     MUST(ek_coil_decode(NULL, 0, coil_back, EK_ANSWER_MAX) ==
-         EK_REFUSED_NO_COIL_TRACK);
+         EK_REFUSED_NO_ANSWER_TRACK);
     coil_draw(EK_ANSWER_MAX + 1, 4);
     length = coil_code(EK_ANSWER_MIN + 1);
     MUST(ek_coil_decode(coil_track, length, coil_back, EK_ANSWER_MAX - 1) ==
@@ -1187,31 +1187,31 @@ static void orders_of_coil(void)
     MUST(coil_reads(length, EK_ANSWER_MIN + 1));
     for (unsigned byte = 0; byte < 256; byte++) {
         coil_track[0] = (uint8_t)byte;
-        MUST((coil_decode(length) == EK_REFUSED_NO_COIL_TRACK) ==
+        MUST((coil_decode(length) == EK_REFUSED_NO_ANSWER_TRACK) ==
              (byte != EK_COIL_START));
     }
     coil_track[0] = EK_COIL_START;
     for (unsigned byte = 0; byte < 256; byte++) {
         coil_track[length - 1] = (uint8_t)byte;
-        MUST((coil_decode(length) == EK_REFUSED_NO_COIL_TRACK) ==
+        MUST((coil_decode(length) == EK_REFUSED_NO_ANSWER_TRACK) ==
              (byte != EK_COIL_END));
     }
     /* A wrong start, end or length comes before a bad bit. */
     coil_track[1] = 0;
-    MUST(coil_decode(length) == EK_REFUSED_NO_COIL_TRACK);
+    MUST(coil_decode(length) == EK_REFUSED_NO_ANSWER_TRACK);
 
     for (size_t n = 1; n < 40; n++) {
         bool fits = n % 2 == 0 && n >= EK_COIL_TRACK(EK_ANSWER_MIN);
         MUST(coil_of_length(n) ==
-             (fits ? (int64_t)(n - 2) / 2 : EK_REFUSED_NO_COIL_TRACK));
+             (fits ? (int64_t)(n - 2) / 2 : EK_REFUSED_NO_ANSWER_TRACK));
         MUST(fits || coil_untouched(0));
     }
-    MUST(coil_of_length(EK_COIL_TRACK_MAX - 1) == EK_REFUSED_NO_COIL_TRACK);
+    MUST(coil_of_length(EK_COIL_TRACK_MAX - 1) == EK_REFUSED_NO_ANSWER_TRACK);
     MUST(coil_of_length(EK_COIL_TRACK_MAX) == EK_ANSWER_MAX);
-    MUST(coil_of_length(EK_COIL_TRACK_MAX + 1) == EK_REFUSED_NO_COIL_TRACK);
-    MUST(coil_of_length(EK_COIL_TRACK_MAX + 2) == EK_REFUSED_NO_COIL_TRACK);
+    MUST(coil_of_length(EK_COIL_TRACK_MAX + 1) == EK_REFUSED_NO_ANSWER_TRACK);
+    MUST(coil_of_length(EK_COIL_TRACK_MAX + 2) == EK_REFUSED_NO_ANSWER_TRACK);
     MUST(coil_untouched(0));
-    for (int64_t r = EK_REFUSED_NO_COIL_TRACK; r < 0; r++) {
+    for (int64_t r = EK_REFUSED_NO_ANSWER_TRACK; r < 0; r++) {
         MUST(EK_COIL_KIND(r) == -1);
     }
 }

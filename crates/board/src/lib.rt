@@ -21,7 +21,7 @@ use play::Served;
 // The version, as the file VERSION and the header have it.
 const MAJOR: u32 = 2;
 
-const MINOR: u32 = 2;
+const MINOR: u32 = 3;
 
 const PATCH: u32 = 0;
 

@@ -1,12 +1,12 @@
 -- 02, W3: "Overlaying is the union of pulses: show that two different answers of one length, overlaid, never decode as clean. Identical answers do."
-use Prim.Native.Nat.{ℕ, _*_, _<_}
+use Prim.Native.Nat.{ℕ, suc, _*_, _<_}
 use mathlib.Core.Bool.{Bool, true, false, _&&_}
 use mathlib.Core.List.{List, [], _∷_}
 use mathlib.Core.Path.{_≡_}
 use lib.Bits.{bitOr}
 use lib.Dec.{eqb}
-use lib.ListN.{length}
-use Rattle.coil.specs.Track.{bit, answerTrack}
+use lib.ListN.{length, getD}
+use Rattle.coil.specs.Track.{end, bit, answerTrack}
 use Rattle.coil.specs.Decoder.{Reading, an-answer, a-clash, reading}
 use Rattle.coil.specs.Read.{IsAnswer}
 
@@ -59,5 +59,8 @@ pub record Overlays : Type 0 where
   -- "two different answers of one length, overlaid, never decode as clean"
   pub two : (a b : List ℕ) → IsAnswer a → IsAnswer b → length a ≡ length b → (a ≡ b → ⊥)
       → FirstUnlike (length a) a (b ∷ []) (reading (overlay (answerTrack a) (answerTrack b)))
+  -- the end stands nowhere but last: the first byte B8 ends a track, whatever lies over whatever
+  pub end-alone : (a : List ℕ) (rs : List (List ℕ)) → Answers (a ∷ rs) → (j : ℕ) → suc j < length (onCoil (a ∷ rs))
+      → getD (onCoil (a ∷ rs)) j 0 ≡ end → ⊥
   -- nor do others, whatever their lengths: it is a clash, be it with the end of a shorter one
   pub any-lengths : (a : List ℕ) (rs : List (List ℕ)) → Answers (a ∷ rs) → (AllAre a rs → ⊥) → (k : ℕ) × (reading (onCoil (a ∷ rs)) ≡ a-clash k)
