@@ -1,13 +1,14 @@
 -- The bytes that the decoder reads: each from two bytes of the track, one after the other. Assumes nothing.
 use mathlib.Core.Path.{_≡_, refl, ap, _∙_}
 use Prim.Native.Nat.{ℕ, zero, suc, _+_, _-_, _*_, _/_, _%_, _^_, _≤_, _<_}
-use native.Mathlib.Nat.{add-zero, zero-add, div-one}
-use native.Mathlib.Numerals.{add-one}
+use native.Mathlib.Nat.{add-zero, zero-add, suc-add, div-one}
+use native.Mathlib.Decide.{ℕ-discrete}
 use native.Mathlib.Omega.{arith}
 use mathlib.Core.List.{List, [], _∷_, _++_}
 use lib.ListN.{length, getD, set}
+use lib.Seq.{getD-set-same, getD-set-other}
 use Rattle.lent.specs.Lent.{placed}
-use Rattle.lent.proofs.Over.{set-placed}
+use Rattle.lent.proofs.Over.{set-placed, placed-placed}
 use Rattle.coil.specs.Decoder.{bitAt, byteAt, bytesFrom}
 use Rattle.coil.specs.Steps.{fourBits}
 use Rattle.coil.proofs.Flaws.{pair-in}
@@ -55,23 +56,45 @@ byte-from t i (suc n) (suc k) h =
     let next : suc i + k ≡ i + suc k = omega arith in
     byte-from t (suc i) n k (omega arith) ∙ ap (byteAt t) next
 
--- the last of them
-bytes-from-last : (t : List ℕ) (i n : ℕ) → bytesFrom t i (suc n) ≡ bytesFrom t i n ++ byteAt t (i + n) ∷ []
+-- n bytes, and m after them
+bytes-from-more : (t : List ℕ) (i n m : ℕ) → bytesFrom t i (n + m) ≡ bytesFrom t i n ++ bytesFrom t (i + n) m
 unfolding bytesFrom
-bytes-from-last t i zero =
-    let same : i ≡ i + 0 = omega arith in
-    ap (λ (k : ℕ). byteAt t k ∷ []) same
-bytes-from-last t i (suc n) =
-    let same : suc i + n ≡ i + suc n = omega arith in
-    ap (λ (l : List ℕ). byteAt t i ∷ l) (bytes-from-last t (suc i) n ∙ ap (λ (k : ℕ). bytesFrom t (suc i) n ++ byteAt t k ∷ []) same)
+bytes-from-more t i zero m = rw (zero-add, add-zero)
+bytes-from-more t i (suc n) m =
+    let next : suc i + n ≡ i + suc n = omega arith in
+    rw (suc-add, ← next) (ap (λ (l : List ℕ). byteAt t i ∷ l) (bytes-from-more t (suc i) n m))
 
--- one byte more, from its two of the track
-pub placed-bytes-suc : (t e : List ℕ) (i at : ℕ) → at ≡ 1 + 2 * i → i < length e
-    → set (placed 0 (bytesFrom t 0 i) e) i (fourBits (getD t at 0) + 16 * fourBits (getD t (at + 1) 0)) ≡ placed 0 (bytesFrom t 0 (i + 1)) e
-placed-bytes-suc t e i at is h =
+-- m bytes placed after the first i
+pub placed-bytes-more : (t e : List ℕ) (i m : ℕ) → i + m ≤ length e
+    → placed i (bytesFrom t i m) (placed 0 (bytesFrom t 0 i) e) ≡ placed 0 (bytesFrom t 0 (i + m)) e
+placed-bytes-more t e i m h =
     let s : List ℕ = bytesFrom t 0 i in
-    let place : i ≡ 0 + length s = omega (arith, length-bytes-from t 0 i) in
-    let next : 1 + 2 * i + 1 ≡ 1 + (2 * i + 1) = omega arith in
-    let last : bytesFrom t 0 (i + 1) ≡ s ++ byteAt t i ∷ [] = rw add-one (bytes-from-last t 0 i ∙ ap (λ (k : ℕ). s ++ byteAt t k ∷ []) (zero-add i)) in
-    rw (is, next, ← byte-of-fours t i)
-    (ap (λ (k : ℕ). set (placed 0 s e) k (byteAt t i)) place ∙ set-placed 0 s e (byteAt t i) (omega (arith, length-bytes-from t 0 i)) ∙ rw last)
+    let v : List ℕ = bytesFrom t i m in
+    let seam : 0 + length s ≡ i = zero-add (length s) ∙ length-bytes-from t 0 i in
+    let more : bytesFrom t 0 (i + m) ≡ s ++ v = rw zero-add at (bytes-from-more t 0 i m) in
+    rw more (rw seam at (placed-placed 0 s v e (omega (arith, length-bytes-from t 0 i, length-bytes-from t i m))))
+
+-- one byte more, joined from two of the track
+pub placed-bytes-suc : (t e : List ℕ) (i j : ℕ) {place at after low high : ℕ} → place ≡ i + j → at ≡ 1 + 2 * place → after ≡ at + 1
+    → low ≡ fourBits (getD t at 0) → high ≡ fourBits (getD t after 0) → place < length e
+    → set (placed i (bytesFrom t i j) e) place (low + 16 * high) ≡ placed i (bytesFrom t i (j + 1)) e
+unfolding bytesFrom
+placed-bytes-suc t e i j {place} {at} {after} {low} {high} here first second lower upper h =
+    let s : List ℕ = bytesFrom t i j in
+    let next : after ≡ 1 + (2 * place + 1) = omega arith in
+    let joined : low + 16 * high ≡ byteAt t place = rw (lower, upper, next, first, ← byte-of-fours t place) in
+    let last : bytesFrom t i (j + 1) ≡ s ++ byteAt t place ∷ [] = rw here (bytes-from-more t i j 1) in
+    let seam : place ≡ i + length s = omega (arith, length-bytes-from t i j) in
+    rw (joined, last, seam) (set-placed i s e _ (omega arith))
+
+-- the four bits of one byte more
+pub fours-suc : (t fours : List ℕ) (at k : ℕ) → k < length fours → ((q : ℕ) → q < k → getD fours q 0 ≡ fourBits (getD t (at + q) 0))
+    → (q : ℕ) → q < k + 1 → getD (set fours k (fourBits (getD t (at + k) 0))) q 0 ≡ fourBits (getD t (at + q) 0)
+fours-suc t fours at k room before q h = go (ℕ-discrete q k)
+  where
+    four : ℕ
+    four = fourBits (getD t (at + k) 0)
+
+    go : Dec (q ≡ k) → getD (set fours k four) q 0 ≡ fourBits (getD t (at + q) 0)
+    go (yes e) = rw e (getD-set-same fours k four 0 room)
+    go (no e) = rw (getD-set-other fours k q four 0 e) (before q (omega arith))

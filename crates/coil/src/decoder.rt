@@ -3,7 +3,7 @@ ghost use mathlib.Core.Path.{_≡_};
 ghost use mathlib.Core.Bool.{true, false};
 ghost use Prim.Native.Nat.{ℕ, _+_, _-_, _*_, _/_, _≤_, _<_};
 ghost use lib.ListN.{length, getD};
-ghost use Rattle.lent.specs.Lent.{over};
+ghost use Rattle.lent.specs.Lent.{over, placed};
 ghost use Rattle.coil.specs.Decoder.{isFramed, pairAt, isBad, firstFrom, bytesFrom, DecodesAnswer};
 ghost use Rattle.coil.specs.Steps.{flaws};
 use crate::pulse::END;
@@ -85,6 +85,26 @@ fn pair_at(track: &[u8], i: usize) -> u8
     (b >> (6 - 2 * (i % 4))) & 3
 }
 
+// Writes sixteen bytes at place i, from the thirty-two of the track at a place. Their bits are gathered first: so the compiler takes many bytes of
+// the track at once.
+fn put_sixteen(track: &[u8], at: usize, answer: &mut [u8], i: usize)
+    requires { ⌜ (at ≡ 1 + 2 * i) × (at + 32 ≤ length (now track)) ⌝ }
+    requires { ⌜ i + 16 ≤ length (now answer) ⌝ }
+    ensures { λ _. ⌜ now (answer .exit) ≡ placed i (bytesFrom (now (track .entry)) i 16) (now (answer .entry)) ⌝ }
+{
+    let mut fours = [0u8; 32];
+    let mut k = 0;
+    while k < 32 {
+        fours[k] = bits_of(track[at + k]);
+        k += 1;
+    }
+    let mut j = 0;
+    while j < 16 {
+        answer[i + j] = fours[2 * j] + 16 * fours[2 * j + 1];
+        j += 1;
+    }
+}
+
 // Writes n bytes.
 fn put_bytes(track: &[u8], n: usize, answer: &mut [u8])
     requires { ⌜ 1 + 2 * n ≤ length (now track) ⌝ }
@@ -93,6 +113,11 @@ fn put_bytes(track: &[u8], n: usize, answer: &mut [u8])
 {
     let mut at = 1;
     let mut i = 0;
+    while 16 <= n - i {
+        put_sixteen(track, at, answer, i);
+        at += 32;
+        i += 16;
+    }
     while i < n {
         let low = bits_of(track[at]);
         let high = bits_of(track[at + 1]);
