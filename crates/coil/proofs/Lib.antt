@@ -2,13 +2,13 @@ pub mod First
 pub mod Pairs
 pub mod Framed
 pub mod RoundTrip
-pub mod Union
-pub mod OneLength
-pub mod Overlay
 pub mod Patterns
 pub mod Units
 pub mod CodeWays
 pub mod Flaws
+pub mod Union
+pub mod OneLength
+pub mod Overlay
 pub mod Bytes
 pub mod DecodeWays
 pub mod Inverse

@@ -1,16 +1,18 @@
 -- Answers of any lengths laid over each other are read as a clash, unless they are identical: the end of a shorter one makes a pair 11, and no
 -- pair is 00. So all of 02's sentence on overlaying. By the laws of the union and of answers of one length. Assumes nothing.
 use mathlib.Core.Path.{_≡_}
-use Prim.Native.Nat.{ℕ, _+_, _*_, _≤_, _<_}
+use Prim.Native.Nat.{ℕ, zero, suc, _+_, _*_, _≤_, _<_}
 use native.Mathlib.Decide.{decLt}
 use native.Mathlib.Omega.{arith}
+use native.Mathlib.Numerals.{one-add}
 use mathlib.Core.List.{List, [], _∷_}
-use lib.ListN.{length}
-use Rattle.coil.specs.Track.{answerTrack}
+use lib.ListN.{length, getD}
+use Rattle.coil.specs.Track.{end, answerTrack}
 use Rattle.coil.specs.Decoder.{pairAt, a-clash, reading}
 use Rattle.coil.specs.Overlay.{onCoil, Answers, OfLength, AllAre, none, more, Overlays}
 use Rattle.coil.proofs.Pairs.{good-range, track-end-pair}
 use Rattle.coil.proofs.Framed.{Judged, all-good, clash-at, loss-at, judged, reading-clash}
+use Rattle.coil.proofs.Flaws.{pair-in}
 use Rattle.coil.proofs.Union.{pair-overlay, or-least-l, or-least-r, greatest, framed-coil, coil-not-lost}
 use Rattle.coil.proofs.OneLength.{identical, different, two}
 
@@ -47,5 +49,13 @@ any-lengths a rs ps differ = go (judged n t)
     go (clash-at k h good e) = (k, reading-clash n k t (framed-coil a rs ps) h good e)
     go (loss-at k h good e) = absurd (omega (arith, coil-not-lost (a ∷ rs) ps k h))
 
+-- the last pair of the end is 00, and no other byte of a track has such a pair there
+end-alone : (a : List ℕ) (rs : List (List ℕ)) → Answers (a ∷ rs) → (j : ℕ) → suc j < length (onCoil (a ∷ rs)) → getD (onCoil (a ∷ rs)) j 0 ≡ end → ⊥
+end-alone a rs ps zero h is = absurd (omega (arith, framed-coil a rs ps .starts, is))
+end-alone a rs ps (suc i) h is =
+    let t : List ℕ = onCoil (a ∷ rs) in
+    let last : pairAt t (4 * i + 3) ≡ 0 = rw (pair-in t i 3 (omega arith), one-add i, is) in
+    absurd (omega (arith, last, coil-not-lost (a ∷ rs) ps (4 * i + 3) (omega (arith, framed-coil a rs ps .long))))
+
 pub overlays : Overlays
-overlays = record { identical = identical; different = different; two = two; any-lengths = any-lengths }
+overlays = record { identical = identical; different = different; two = two; end-alone = end-alone; any-lengths = any-lengths }
