@@ -1,35 +1,16 @@
 -- The ways out of the decoder, in 02's order: 8, 12, an answer, a clash, a lost bit. By the tests of its definition. Assumes nothing.
-use mathlib.Core.Path.{_≡_, ap, _∙_}
-use mathlib.Core.Bool.{true, false}
+use mathlib.Core.Path.{_≡_, refl, ap, _∙_}
+use mathlib.Core.Bool.{Bool, true, false, cond}
 use Prim.Native.Nat.{ℕ, _+_, _-_, _*_, _/_, _≤_, _<_}
 use mathlib.Core.List.{List}
 use native.Mathlib.Omega.{arith}
-use borrow.Author.Tests.{eq-eqb, ne-eqb, le-leb, lt-leb, le-ltb, lt-ltb}
+use lib.IntN.{pos}
+use borrow.Author.Tests.{le-leb, lt-leb, le-ltb, lt-ltb}
 use lib.ListN.{length}
 use Rattle.lent.specs.Lent.{over, refused}
 use Rattle.frames.specs.Frame.{longestAnswer}
-use Rattle.coil.specs.Decoder.{
-  bytesIn,
-  isFramed,
-  pairAt,
-  isBad,
-  firstFrom,
-  firstBad,
-  bytesFrom,
-  Reading,
-  an-answer,
-  a-clash,
-  a-loss,
-  no-track,
-  readTo,
-  reading,
-  told,
-  number,
-  written,
-  decodeAnswer,
-  decodeLeaves,
-  DecodesAnswer,
-}
+use Rattle.coil.specs.Decoder.{bytesIn, isFramed, pairAt, isBad, firstFrom, firstBad, bytesFrom, Reading, an-answer, a-clash, a-loss, no-track, readTo, reading, told, number, written, decodeAnswer, decodeLeaves, DecodesAnswer, isClash}
+use Rattle.coil.specs.Steps.{badBit}
 use Rattle.coil.proofs.Bytes.{length-bytes-from}
 use Rattle.coil.proofs.Framed.{framed-of-test}
 
@@ -56,16 +37,14 @@ module _ (t found : List ℕ) where
           rw (length-bytes-from t 0 (bytesIn t)) at
           (decodes-reading (an-answer (bytesFrom t 0 (bytesIn t))) (rw (framed, le-ltb (firstBad t) (8 * bytesIn t) h)))
 
-      module _ (some : firstBad t < 8 * bytesIn t) where
-        pub decodes-clash : pairAt t (firstBad t) ≡ 3 → DecodesAnswer t found (told 1 (firstBad t)) found
-        unfolding reading readTo number written
-        decodes-clash h =
-            decodes-reading (a-clash (firstBad t)) (rw (framed, lt-ltb (firstBad t) (8 * bytesIn t) some, eq-eqb (pairAt t (firstBad t)) 3 h))
-
-        pub decodes-loss : (pairAt t (firstBad t) ≡ 3 → ⊥) → DecodesAnswer t found (told 2 (firstBad t)) found
-        unfolding reading readTo number written
-        decodes-loss h =
-            decodes-reading (a-loss (firstBad t)) (rw (framed, lt-ltb (firstBad t) (8 * bytesIn t) some, ne-eqb (pairAt t (firstBad t)) 3 h))
+      pub decodes-bad : firstBad t < 8 * bytesIn t → DecodesAnswer t found (pos (badBit t (firstBad t))) found
+      unfolding reading readTo number written badBit
+      decodes-bad some = go (isClash (pairAt t (firstBad t))) refl
+        where
+          go : (b : Bool) → isClash (pairAt t (firstBad t)) ≡ b
+              → DecodesAnswer t found (pos (cond b (131072 + firstBad t) (262144 + firstBad t))) found
+          go true e = decodes-reading (a-clash (firstBad t)) (rw (framed, lt-ltb (firstBad t) (8 * bytesIn t) some, e))
+          go false e = decodes-reading (a-loss (firstBad t)) (rw (framed, lt-ltb (firstBad t) (8 * bytesIn t) some, e))
 
 -- ---- what the code computes of a framed track
 
@@ -84,3 +63,11 @@ first-bad-is t k is =
     let n : ℕ = (length t - 2) / 2 in
     let all : 4 * (2 * n) ≡ 8 * n = omega arith in
     is ∙ ap (λ (m : ℕ). firstFrom (isBad t) 0 m) all
+
+pub bad-bit-most : (t : List ℕ) (k : ℕ) → badBit t k ≤ 262144 + k
+unfolding badBit
+bad-bit-most t k = go (isClash (pairAt t k))
+  where
+    go : (b : Bool) → cond b (131072 + k) (262144 + k) ≤ 262144 + k
+    go true = omega arith
+    go false = omega arith

@@ -5,7 +5,7 @@ ghost use Prim.Native.Nat.{ℕ, _+_, _-_, _*_, _/_, _≤_, _<_};
 ghost use lib.ListN.{length, getD};
 ghost use Rattle.lent.specs.Lent.{over, placed};
 ghost use Rattle.coil.specs.Decoder.{isFramed, pairAt, isBad, firstFrom, bytesFrom, DecodesAnswer};
-ghost use Rattle.coil.specs.Steps.{flaws};
+ghost use Rattle.coil.specs.Steps.{flaws, badBit};
 use crate::pulse::END;
 use crate::pulse::START;
 use crate::pulse::bits_of;
@@ -127,6 +127,18 @@ fn put_bytes(track: &[u8], n: usize, answer: &mut [u8])
     }
 }
 
+// What is told of a bad bit: a clash, or else that it is lost.
+fn bad_bit(track: &[u8], k: usize) -> usize
+    requires { ⌜ (1 + k / 4 < length (now track)) × (k < 67608) ⌝ }
+    ensures { λ r. ⌜ r ≡ badBit (now (track .entry)) k ⌝ }
+{
+    if pair_at(track, k) == 3 {
+        131072 + k
+    } else {
+        262144 + k
+    }
+}
+
 // The answer of a track at the start of the room that is lent. Returns 131,072 times the kind and a number: kind 0 is an answer and its length,
 // 1 a clash and 2 a lost bit, with the first such bit's place; or minus the number of the refusal.
 pub fn decode(track: &[u8], answer: &mut [u8]) -> i64
@@ -144,8 +156,5 @@ pub fn decode(track: &[u8], answer: &mut [u8]) -> i64
         put_bytes(track, n, answer);
         return n as i64;
     }
-    if pair_at(track, k) == 3 {
-        return (131072 + k) as i64;
-    }
-    (262144 + k) as i64
+    bad_bit(track, k) as i64
 }

@@ -3,14 +3,15 @@ use borrow.Author.Needs.{needs}
 use native.Mathlib.Omega.{arith}
 use native.Mathlib.Nat.{zero-add}
 use mathlib.Core.Path.{sym, _∙_}
-use Prim.Native.Nat.{_+_, _-_, _/_}
+use Prim.Native.Nat.{_-_, _/_}
 use lib.ListN.{length}
 use borrow.Author.Tests.{not-false, not-true}
 use mir.ValLaws.{toZ-pos}
 use mir.Syntax.{w64}
 use Rattle.coil.specs.Decoder.{bytesIn}
+use Rattle.coil.specs.Steps.{badBit}
 use Rattle.frames.specs.Frame.{longestAnswer}
-use Rattle.coil.proofs.DecodeWays.{decodes-no-room, decodes-no-track, decodes-answer, decodes-clash, decodes-loss, framed-length, framed-most, first-bad-is}
+use Rattle.coil.proofs.DecodeWays.{decodes-no-room, decodes-no-track, decodes-answer, decodes-bad, framed-length, framed-most, first-bad-is, bad-bit-most}
 use Rattle.coil.proofs.decoder.decode.Statement.{statement}
 use Rattle.coil.proofs.decoder.decode.Tie as tie
 
@@ -91,78 +92,41 @@ returns-3 c =
     let way = decodes-answer t (args .answer .now) (room .left) framed (rw place at (third .taken)) in
     rw (toZ-pos w64 ((length t - 2) / 2) (omega (arith, framed-most t framed)), put-bytes .ensures) (rw zero-add at way)
 
-pair-at-requires : tie.Need-pair-at-requires
-pair-at-requires c κs = search needs
-
-add-result : tie.Need-add-result
-add-result c =
-    let args = c .before .before .before .before .before .before .before .before .before .args in
-    let is-framed = c .before .before .before .before .before .is-framed in
-    let second = c .before .before .before .before .if2 in
+bad-bit-requires : tie.Need-bad-bit-requires
+bad-bit-requires c κs =
+    let args = c .before .before .before .before .before .before .before .args in
+    let is-framed = c .before .before .before .is-framed in
+    let second = c .before .before .if2 in
+    let third = c .if3 in
     let t = args .track .now in
     let framed = sym (is-framed .ensures) ∙ not-false _ (second .left) in
-    omega (arith, framed-most t framed)
+    (omega (arith, framed-length t framed, third .left), omega (arith, framed-most t framed, third .left))
 
 cast-result-2 : tie.Need-cast-result-2
 cast-result-2 c =
-    let args = c .before .before .before .before .before .before .before .before .before .args in
-    let is-framed = c .before .before .before .before .before .is-framed in
-    let second = c .before .before .before .before .if2 in
+    let args = c .before .before .before .before .before .before .before .before .args in
+    let is-framed = c .before .before .before .before .is-framed in
+    let second = c .before .before .before .if2 in
+    let first-bad = c .before .before .first-bad in
     let t = args .track .now in
     let framed = sym (is-framed .ensures) ∙ not-false _ (second .left) in
-    omega (arith, framed-most t framed)
+    rw (c .bad-bit .ensures) (omega (arith, framed-most t framed, bad-bit-most t (first-bad .result)))
 
 returns-4 : tie.Need-returns-4
 unfolding longestAnswer bytesIn
 returns-4 c =
-    let args = c .before .before .before .before .before .before .before .before .before .args in
-    let is-framed = c .before .before .before .before .before .is-framed in
-    let second = c .before .before .before .before .if2 in
-    let first-bad = c .before .before .before .first-bad in
-    let room = c .before .before .before .before .before .before .if1 in
-    let third = c .before .before .if3 in
-    let pair-at = c .before .pair-at in
-    let fourth = c .if4 in
+    let args = c .before .before .before .before .before .before .before .before .args in
+    let room = c .before .before .before .before .before .if1 in
+    let is-framed = c .before .before .before .before .is-framed in
+    let second = c .before .before .before .if2 in
+    let first-bad = c .before .before .first-bad in
+    let third = c .before .if3 in
     let t = args .track .now in
     let framed = sym (is-framed .ensures) ∙ not-false _ (second .left) in
     let place = first-bad-is t (first-bad .result) (first-bad .ensures) in
-    let way = decodes-clash t (args .answer .now) (room .left) framed (rw place at (third .left)) (rw (pair-at .ensures, place) at (fourth .taken)) in
-    rw (toZ-pos w64 (131072 + first-bad .result) (omega (arith, framed-most t framed)), place) way
-
-add-result-2 : tie.Need-add-result-2
-add-result-2 c =
-    let args = c .before .before .before .before .before .before .before .before .before .args in
-    let is-framed = c .before .before .before .before .before .is-framed in
-    let second = c .before .before .before .before .if2 in
-    let t = args .track .now in
-    let framed = sym (is-framed .ensures) ∙ not-false _ (second .left) in
-    omega (arith, framed-most t framed)
-
-cast-result-3 : tie.Need-cast-result-3
-cast-result-3 c =
-    let args = c .before .before .before .before .before .before .before .before .before .args in
-    let is-framed = c .before .before .before .before .before .is-framed in
-    let second = c .before .before .before .before .if2 in
-    let t = args .track .now in
-    let framed = sym (is-framed .ensures) ∙ not-false _ (second .left) in
-    omega (arith, framed-most t framed)
-
-returns-5 : tie.Need-returns-5
-unfolding longestAnswer bytesIn
-returns-5 c =
-    let args = c .before .before .before .before .before .before .before .before .before .args in
-    let is-framed = c .before .before .before .before .before .is-framed in
-    let second = c .before .before .before .before .if2 in
-    let first-bad = c .before .before .before .first-bad in
-    let room = c .before .before .before .before .before .before .if1 in
-    let third = c .before .before .if3 in
-    let pair-at = c .before .pair-at in
-    let fourth = c .if4 in
-    let t = args .track .now in
-    let framed = sym (is-framed .ensures) ∙ not-false _ (second .left) in
-    let place = first-bad-is t (first-bad .result) (first-bad .ensures) in
-    let way = decodes-loss t (args .answer .now) (room .left) framed (rw place at (third .left)) (rw (pair-at .ensures, place) at (fourth .left)) in
-    rw (toZ-pos w64 (262144 + first-bad .result) (omega (arith, framed-most t framed)), place) way
+    let most = bad-bit-most t (first-bad .result) in
+    rw (c .bad-bit .ensures, toZ-pos w64 (badBit t (first-bad .result)) (omega (arith, framed-most t framed, most)), place)
+    (decodes-bad t (args .answer .now) (room .left) framed (rw place at (third .left)))
 
 pub decode-spec : {M : Type 1} → statement M
 decode-spec =
@@ -179,10 +143,6 @@ decode-spec =
     cast-result
     same-length
     returns-3
-    pair-at-requires
-    add-result
+    bad-bit-requires
     cast-result-2
-    returns-4
-    add-result-2
-    cast-result-3
-    returns-5)
+    returns-4)
