@@ -656,8 +656,11 @@ struct ek_reading ek_read(struct ek_request request, const uint8_t *answer,
  * Where tags answer at once, their tracks lie over each other: a unit has
  * subcarrier if it has in one of them. A pair 11 is a clash; a pair 00, which
  * no tag sends, is lost. Different answers over each other, of whatever
- * lengths, are always read as a clash; identical ones are read as one. Neither
- * has a byte EK_COIL_END before the last: the first such byte ends the track.
+ * lengths, are always read as a clash; identical ones are read as one. The
+ * front end cuts the track: its first unit is the top bit of the first byte.
+ * Undisturbed, no such track has a byte EK_COIL_END before its last. One that is
+ * disturbed may, and cut there it may be read as a shorter answer: its check
+ * tells, and the walk and ek_read look at it.
  *
  * So a walk on the coil counts different answers and not tags: two tags alike
  * in UID and DSFID count as one, and EK_WALK_TWINS means one UID with different

@@ -14,7 +14,7 @@ use Rattle.frames.specs.Field.{fieldBytes}
 use Rattle.frames.specs.Frame.{shortestAnswer, longestAnswer}
 use Rattle.frames.proofs.Fields.{field-bytes-are-bytes}
 use Rattle.slots.specs.Fits.{fitsSlot}
-use Rattle.coil.specs.Read.{IsAnswer}
+use Rattle.coil.specs.Read.{Codable}
 use Rattle.coil.specs.Overlay.{Answers}
 use Rattle.coil.specs.Overlay as coil
 use Rattle.card.specs.declared.Card.{Card}
@@ -138,7 +138,7 @@ unfolding checkBytes
 check-are-bytes m =
     bytes-cons (checkOf m % 256) (checkOf m / 256 ∷ []) (omega arith) (bytes-cons (checkOf m / 256) [] (omega (arith, check-fits m)) bytes-none)
 
-message-answer : (c : Card) → c .dsfid < 256 → IsAnswer (message c)
+message-answer : (c : Card) → c .dsfid < 256 → Codable (message c)
 unfolding message presence sealed shortestAnswer longestAnswer
 message-answer c h =
     let uid : List ℕ = fieldBytes 8 (c .uid) in

@@ -4,9 +4,9 @@ use mathlib.Core.Bool.{Bool, true, false, cond, _||_}
 use Prim.Native.Nat.{ℕ, _+_, _≤_}
 use native.Mathlib.Omega.{arith}
 use mathlib.Core.List.{[], _∷_}
+use borrow.Author.Tests.{lt-ltb, le-ltb}
 use lib.Dec.{eqb}
 use lib.ListN.{length}
-use lib.Seq.{take-all}
 use Rattle.tails.specs.Sum.{one, tally, times}
 use Rattle.walk.specs.Record.{complete}
 use Rattle.play.specs.Life.{Tag}
@@ -80,8 +80,7 @@ coil-fields =
           found-one (b .card .uid) _ (rw (one-said family a b p q u d) at (coil-demand3 family (a ∷ b ∷ []) list room obey fit places wide .found));
       two-dsfids = λ family a b list room obey fit places wide p q u d.
           coil-twins family (a ∷ b ∷ []) list room obey fit places wide .differ-twins (few-said family a b p q) (unlike family a b p q u d);
-      answer-told = λ left n. rw (take-all 12 left (omega arith));
-      clash-told = λ left. refl;
-      loss-told = λ left. refl;
-      none-told = λ left. refl;
+      answer-told = λ n left h. rw (lt-ltb n 131072 h);
+      bad-told = λ n left h. rw (le-ltb n 131072 h);
+      refusal-told = λ n left. refl;
     }

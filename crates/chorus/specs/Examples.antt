@@ -1,11 +1,11 @@
 -- 02, W3, on two cards: "two cards alike in UID and DSFID count as one there, and twins means alike UID with another DSFID"; and what a walk is told by
 -- the decoder's number.
-use Prim.Native.Nat.{ℕ, _≤_}
+use Prim.Native.Nat.{ℕ, suc, _≤_, _<_}
 use mathlib.Core.Bool.{true}
 use mathlib.Core.List.{List, [], _∷_}
 use mathlib.Core.Path.{_≡_}
 use lib.IntN.{pos}
-use lib.ListN.{length}
+use lib.ListN.{length, take}
 use Rattle.lent.specs.Lent.{refused}
 use Rattle.tails.specs.Sum.{times}
 use Rattle.walk.specs.Record.{complete, twins}
@@ -31,8 +31,7 @@ pub record CoilFields : Type 0 where
   pub two-dsfids : (family : ℕ) (a b : Tag) (list room : List ℕ) → AllObey (a ∷ b ∷ []) → DsfidsFit (a ∷ b ∷ []) → 64 ≤ length list → 14 ≤ length room
       → answers family (a .card) ≡ true → answers family (b .card) ≡ true → a .card .uid ≡ b .card .uid → (a .card .dsfid ≡ b .card .dsfid → ⊥)
       → onCoilPlayed family list room (a ∷ b ∷ []) .walk .ending ≡ twins
-  -- an answer of 12 bytes; a clash at bit 0; a lost bit 0; no track
-  pub answer-told : (left : List ℕ) → length left ≡ 12 → heardBy (pos 12) left ≡ whole left
-  pub clash-told : (left : List ℕ) → heardBy (pos 131072) left ≡ clash
-  pub loss-told : (left : List ℕ) → heardBy (pos 262144) left ≡ clash
-  pub none-told : (left : List ℕ) → heardBy (refused 12) left ≡ clash
+  -- from 0 to 131,071 an answer's length; a clash or a lost bit; any refusal
+  pub answer-told : (n : ℕ) (left : List ℕ) → n < 131072 → heardBy (pos n) left ≡ whole (take n left)
+  pub bad-told : (n : ℕ) (left : List ℕ) → 131072 ≤ n → heardBy (pos n) left ≡ clash
+  pub refusal-told : (n : ℕ) (left : List ℕ) → heardBy (refused (suc n)) left ≡ clash

@@ -14,7 +14,7 @@ use Rattle.frames.specs.Frame.{shortestAnswer, longestAnswer}
 use Rattle.coil.specs.Track.{answerTrack, answerTrackLength}
 use Rattle.coil.specs.Coder.{CodesAnswer}
 use Rattle.coil.specs.Decoder.{DecodesAnswer}
-use Rattle.coil.specs.Read.{IsAnswer}
+use Rattle.coil.specs.Read.{Codable}
 use Rattle.coil.proofs.Pairs.{length-track}
 use Rattle.coil.proofs.RoundTrip.{reading-of-track}
 use Rattle.coil.proofs.CodeWays.{codes-too-short, codes-too-long, codes-no-room, codes-served}
@@ -61,5 +61,5 @@ module _ {answer room : List ℕ} {n : ℕ} {track : List ℕ} (code : CodesAnsw
   pub answer-of-code : {found : List ℕ} {r : ℤ} {left : List ℕ} → Bytes answer → longestAnswer ≤ length found → DecodesAnswer (take n track) found r left
       → (r ≡ pos (length answer)) × (left ≡ over answer found)
   answer-of-code {found} bytes wide-enough decode =
-      let is : IsAnswer answer = record { bytes = bytes; least = least; most = most } in
+      let is : Codable answer = record { bytes = bytes; least = least; most = most } in
       what-is-told (answerTrack answer) found _ _ wide-enough (rw coded-track at decode) .of-answer answer (reading-of-track answer is)

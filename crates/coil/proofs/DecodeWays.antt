@@ -9,7 +9,8 @@ use borrow.Author.Tests.{le-leb, lt-leb, le-ltb, lt-ltb}
 use lib.ListN.{length}
 use Rattle.lent.specs.Lent.{over, refused}
 use Rattle.frames.specs.Frame.{longestAnswer}
-use Rattle.coil.specs.Decoder.{bytesIn, isFramed, pairAt, isBad, firstFrom, firstBad, bytesFrom, Reading, an-answer, a-clash, a-loss, no-track, readTo, reading, told, number, written, decodeAnswer, decodeLeaves, DecodesAnswer, isClash}
+use Rattle.coil.specs.Decoder.{bytesIn, isFramed, pairAt, isBad, firstFrom, firstBad, bytesFrom, Reading, an-answer, a-clash}
+use Rattle.coil.specs.Decoder.{a-loss, no-track, readTo, reading, told, number, written, decodeAnswer, decodeLeaves, DecodesAnswer, isClash}
 use Rattle.coil.specs.Steps.{badBit}
 use Rattle.coil.proofs.Bytes.{length-bytes-from}
 use Rattle.coil.proofs.Framed.{framed-of-test}

@@ -4,15 +4,15 @@ use mathlib.Core.Bool.{Bool, true, false}
 use Prim.Native.Nat.{ℕ, _+_, _-_, _*_, _/_, _%_, _^_, _<_}
 use native.Mathlib.Decide.{decLt}
 use native.Mathlib.Omega.{arith}
-use mathlib.Core.List.{List, [], _∷_}
-use lib.ListN.{length, getD, drop, List·getD-append, List·getD-eq-default}
+use mathlib.Core.List.{List, [], _∷_, _++_}
+use lib.ListN.{length, getD, drop, replicate, List·getD-append, List·getD-eq-default}
 use Rattle.lent.specs.Lent.{over}
 use Rattle.lent.proofs.Bytes.{bytes-none, bytes-cons}
 use Rattle.frames.specs.Frame.{shortestAnswer, longestAnswer}
 use Rattle.coil.specs.Track.{pairOf, half, pulses, answerTrack}
 use Rattle.coil.specs.Decoder.{an-answer, a-clash, a-loss, isFramed, bytesIn, number, written, reading, readTo, firstBad, firstFrom, isBad, pairAt}
 use Rattle.coil.specs.Coder.{isAnswerLength}
-use Rattle.coil.specs.Read.{IsAnswer, Framed}
+use Rattle.coil.specs.Read.{Codable, Framed}
 use Rattle.coil.specs.Overlay.{overlay, onCoil}
 use Rattle.coil.specs.Examples.{Coil}
 use Rattle.coil.proofs.Pairs.{length-track, track-byte}
@@ -77,7 +77,7 @@ plain-track : answerTrack plain ≡ 0x1d ∷ 0xaa ∷ 0xaa ∷ 0xa9 ∷ 0x56 ∷
 unfolding answerTrack pulses half pairOf
 plain-track = refl
 
-plain-answer : IsAnswer plain
+plain-answer : Codable plain
 unfolding shortestAnswer longestAnswer
 plain-answer =
     record {
@@ -119,6 +119,10 @@ laid-read : reading (0x1d ∷ 0xba ∷ 0xaa ∷ 0xa9 ∷ 0x56 ∷ 0xaa ∷ 0x55 
 unfolding reading readTo isFramed bytesIn isAnswerLength shortestAnswer longestAnswer firstBad firstFrom isBad pairAt
 laid-read = refl
 
+far-read : reading (0x1d ∷ replicate 39 0xaa ++ 0xa8 ∷ 0xb8 ∷ []) ≡ a-loss 159
+unfolding reading readTo isFramed bytesIn isAnswerLength shortestAnswer longestAnswer firstBad firstFrom isBad pairAt
+far-read = refl
+
 laid : onCoil (plain ∷ (0x02 ∷ 0x78 ∷ 0xf0 ∷ []) ∷ []) ≡ 0x1d ∷ 0xba ∷ 0xaa ∷ 0xa9 ∷ 0x56 ∷ 0xaa ∷ 0x55 ∷ 0xb8 ∷ []
 unfolding onCoil overlay answerTrack pulses half pairOf
 laid = refl
@@ -140,6 +144,11 @@ coil =
       track-room-short = λ answer found r left least most room p. coil-code-unique p (codes-no-room answer found least most room);
       room-short = λ t found r left n p. coil-decode-unique p (decodes-no-room t found (omega arith));
       no-end = λ t found r left room other p. coil-decode-unique p (decodes-no-track t found room (not-framed t (no-end-framed t other)));
+      no-start = λ t found r left room other p. coil-decode-unique p (decodes-no-track t found room (not-framed t (λ framed. other (framed .starts))));
+      track-short = λ t found r left room few p.
+          coil-decode-unique p (decodes-no-track t found room (not-framed t (λ framed. absurd (omega (arith, framed .long, framed .least)))));
+      track-long = λ t found r left room many p.
+          coil-decode-unique p (decodes-no-track t found room (not-framed t (λ framed. absurd (omega (arith, framed .long, framed .most)))));
       odd-length = λ t found n r left room odd p.
           coil-decode-unique p (decodes-no-track t found room (not-framed t (λ framed. absurd (omega (arith, framed .long, odd)))));
       clash-at-0 = λ t found n r left room framed pair p.
@@ -151,6 +160,7 @@ coil =
       clash-at-1 = λ found r left room p. coil-decode-unique p (decodes-reading _ found room (a-clash 1) one-read);
       lost-at-4 = λ found r left room p. coil-decode-unique p (decodes-reading _ found room (a-loss 4) four-read);
       lost-at-23 = λ found r left room p. coil-decode-unique p (decodes-reading _ found room (a-loss 23) last-read);
+      lost-at-159 = λ found r left room p. coil-decode-unique p (decodes-reading _ found room (a-loss 159) far-read);
       laid-over = laid;
       laid-over-read = laid-read;
     }

@@ -16,7 +16,7 @@ use Rattle.lent.specs.Bytes.{Bytes}
 use Rattle.lent.proofs.Every.{every, every-at}
 use Rattle.coil.specs.Track.{pairOf, half, answerTrack}
 use Rattle.coil.specs.Decoder.{pairAt, byteAt, bytesFrom}
-use Rattle.coil.specs.Read.{IsAnswer, Framed, Good, zero-bit, one-bit, GoodBefore}
+use Rattle.coil.specs.Read.{Codable, Framed, Good, zero-bit, one-bit, GoodBefore}
 use Rattle.coil.specs.Steps.{fourBits, flaw, flaws}
 use Rattle.coil.proofs.Pairs.{length-track, track-start, track-byte, track-end}
 use Rattle.coil.proofs.Flaws.{pairIn, pair-in}
@@ -120,7 +120,7 @@ module _ (n : ℕ) (t : List ℕ) (bytes : Bytes t) (framed : Framed n t) (good 
       let long : length (answerTrack answer) ≡ length t = length-track answer ∙ rw answer-length (sym (framed .long)) in
       ext-getD 0 t (answerTrack answer) (sym long) place-back
 
-  pub answer-read-is : IsAnswer answer
+  pub answer-read-is : Codable answer
   answer-read-is =
       record {
         bytes = λ k. below k (decLt k n);

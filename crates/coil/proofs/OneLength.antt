@@ -15,7 +15,7 @@ use Rattle.lent.specs.Bytes.{Bytes}
 use Rattle.lent.proofs.Every.{every, every-at}
 use Rattle.coil.specs.Track.{bit, pairOf, answerTrack}
 use Rattle.coil.specs.Decoder.{pairAt, firstFrom, an-answer, reading}
-use Rattle.coil.specs.Read.{IsAnswer, Framed, GoodBefore}
+use Rattle.coil.specs.Read.{Codable, Framed, GoodBefore}
 use Rattle.coil.specs.Overlay.{overlay, onCoil, Answers, OfLength, AllAre, none, more, alikeAt, FirstUnlike}
 use Rattle.coil.proofs.First.{First, first-from}
 use Rattle.coil.proofs.Pairs.{pair-good, track-pair}
@@ -30,7 +30,7 @@ unfolding onCoil
 coil-of-identical a [] none = overlay-none (answerTrack a)
 coil-of-identical a (r ∷ rs) (more e es) = rw (e, coil-of-identical a rs es) (overlay-self (answerTrack a))
 
-pub identical : (a : List ℕ) (rs : List (List ℕ)) → IsAnswer a → AllAre a rs → reading (onCoil (a ∷ rs)) ≡ an-answer a
+pub identical : (a : List ℕ) (rs : List (List ℕ)) → Codable a → AllAre a rs → reading (onCoil (a ∷ rs)) ≡ an-answer a
 unfolding onCoil
 identical a rs p es = rw (coil-of-identical a rs es) (reading-of-track a p)
 
@@ -114,7 +114,7 @@ different n a rs (more p ps) (more l ls) differ = go (decLt k (8 * n))
         }
     go (no h) = absurd (differ (all-alike n a rs (p .bytes) l ps ls (λ i g. alike i (omega arith))))
 
-pub two : (a b : List ℕ) → IsAnswer a → IsAnswer b → length a ≡ length b → (a ≡ b → ⊥)
+pub two : (a b : List ℕ) → Codable a → Codable b → length a ≡ length b → (a ≡ b → ⊥)
     → FirstUnlike (length a) a (b ∷ []) (reading (overlay (answerTrack a) (answerTrack b)))
 unfolding onCoil
 two a b p q n differ =

@@ -13,7 +13,7 @@ use Rattle.lent.specs.Bytes.{Bytes}
 use Rattle.lent.proofs.Every.{every, every-at}
 use Rattle.coil.specs.Track.{bit, pairOf, answerTrack}
 use Rattle.coil.specs.Decoder.{pairAt, bitAt, byteAt, bytesFrom, an-answer, reading}
-use Rattle.coil.specs.Read.{IsAnswer, Framed}
+use Rattle.coil.specs.Read.{Codable, Framed}
 use Rattle.coil.proofs.Pairs.{length-track, track-start, track-end, pair-good, track-pair}
 use Rattle.coil.proofs.Framed.{reading-answer}
 
@@ -93,15 +93,15 @@ bytes-from-are t (v ∷ l) i same =
     next : (j : ℕ) → suc i + j ≡ i + suc j
     next j = omega arith
 
-pub reading-of-pairs : (t a : List ℕ) → IsAnswer a → Framed (length a) t → ((i : ℕ) → i < 8 * length a → pairAt t i ≡ pairOf (bit a i))
+pub reading-of-pairs : (t a : List ℕ) → Codable a → Framed (length a) t → ((i : ℕ) → i < 8 * length a → pairAt t i ≡ pairOf (bit a i))
     → reading t ≡ an-answer a
 reading-of-pairs t a p f pairs =
     reading-answer (length a) t f (λ i h. rw (pairs i h) (pair-good (bit a i)))
     ∙ ap an-answer
     (bytes-from-are t a 0 (λ j h. rw zero-add (byte-of-pairs t a j (p .bytes j) (λ k g. pairs (8 * j + k) (omega arith)))))
 
-pub framed-track : (a : List ℕ) → IsAnswer a → Framed (length a) (answerTrack a)
+pub framed-track : (a : List ℕ) → Codable a → Framed (length a) (answerTrack a)
 framed-track a p = record { least = p .least; most = p .most; long = length-track a; starts = track-start a; ends = track-end a }
 
-pub reading-of-track : (a : List ℕ) → IsAnswer a → reading (answerTrack a) ≡ an-answer a
+pub reading-of-track : (a : List ℕ) → Codable a → reading (answerTrack a) ≡ an-answer a
 reading-of-track a p = reading-of-pairs (answerTrack a) a p (framed-track a p) (λ i h. track-pair a i (p .bytes) h)

@@ -1,10 +1,10 @@
 -- 02, W3: "E1 is 6A 95.", and examples of our own. Each says of every number r and every buffer left that the call's promise allows what they are;
 -- tracks and numbers are written out.
 use Prim.Native.Nat.{ℕ, suc, _+_, _-_, _*_, _≤_, _<_}
-use mathlib.Core.List.{List, [], _∷_}
+use mathlib.Core.List.{List, [], _∷_, _++_}
 use mathlib.Core.Path.{_≡_}
 use lib.IntN.{ℤ, pos}
-use lib.ListN.{length, getD}
+use lib.ListN.{length, getD, replicate}
 use Rattle.lent.specs.Lent.{over, refused}
 use Rattle.coil.specs.Coder.{CodesAnswer}
 use Rattle.coil.specs.Decoder.{pairAt, a-clash, reading, DecodesAnswer}
@@ -33,8 +33,14 @@ pub record Coil : Type 0 where
       → CodesAnswer answer found r left → (r ≡ refused 8) × (left ≡ found)
   -- "8,451 to decode", whatever the track is
   pub room-short : (t found : List ℕ) (r : ℤ) (left : List ℕ) → length found ≤ 8450 → DecodesAnswer t found r left → (r ≡ refused 8) × (left ≡ found)
-  -- "12 ..: wrong start, end or length": a track without B8, and one of odd length
+  -- "12 ..: wrong start, end or length": a track without 1D or B8; one of an answer under 3 bytes or over 8,451; one of odd length
+  pub no-start : (t found : List ℕ) (r : ℤ) (left : List ℕ) → 8451 ≤ length found → (getD t 0 0 ≡ 0x1d → ⊥) → DecodesAnswer t found r left
+      → (r ≡ refused 12) × (left ≡ found)
   pub no-end : (t found : List ℕ) (r : ℤ) (left : List ℕ) → 8451 ≤ length found → (getD t (length t - 1) 0 ≡ 0xb8 → ⊥) → DecodesAnswer t found r left
+      → (r ≡ refused 12) × (left ≡ found)
+  pub track-short : (t found : List ℕ) (r : ℤ) (left : List ℕ) → 8451 ≤ length found → length t ≤ 7 → DecodesAnswer t found r left
+      → (r ≡ refused 12) × (left ≡ found)
+  pub track-long : (t found : List ℕ) (r : ℤ) (left : List ℕ) → 8451 ≤ length found → 16905 ≤ length t → DecodesAnswer t found r left
       → (r ≡ refused 12) × (left ≡ found)
   pub odd-length : (t found : List ℕ) (n : ℕ) (r : ℤ) (left : List ℕ) → 8451 ≤ length found → length t ≡ suc (2 * n) → DecodesAnswer t found r left
       → (r ≡ refused 12) × (left ≡ found)
@@ -50,6 +56,9 @@ pub record Coil : Type 0 where
       → DecodesAnswer (0x1d ∷ 0xaa ∷ 0x2e ∷ 0xa9 ∷ 0x56 ∷ 0xaa ∷ 0x55 ∷ 0xb8 ∷ []) found r left → (r ≡ pos 262148) × (left ≡ found)
   pub lost-at-23 : (found : List ℕ) (r : ℤ) (left : List ℕ) → 8451 ≤ length found
       → DecodesAnswer (0x1d ∷ 0xaa ∷ 0xaa ∷ 0xa9 ∷ 0x56 ∷ 0xaa ∷ 0x54 ∷ 0xb8 ∷ []) found r left → (r ≡ pos 262167) × (left ≡ found)
+  -- twenty bytes 00 with 00 in their last bit
+  pub lost-at-159 : (found : List ℕ) (r : ℤ) (left : List ℕ) → 8451 ≤ length found → DecodesAnswer (0x1d ∷ replicate 39 0xaa ++ 0xa8 ∷ 0xb8 ∷ []) found r left
+      → (r ≡ pos 262303) × (left ≡ found)
   -- "Overlaying is the union of pulses": 00 78 F0 over 02 78 F0, which differ in bit 1
   pub laid-over : onCoil ((0x00 ∷ 0x78 ∷ 0xf0 ∷ []) ∷ (0x02 ∷ 0x78 ∷ 0xf0 ∷ []) ∷ []) ≡ 0x1d ∷ 0xba ∷ 0xaa ∷ 0xa9 ∷ 0x56 ∷ 0xaa ∷ 0x55 ∷ 0xb8 ∷ []
   pub laid-over-read : reading (0x1d ∷ 0xba ∷ 0xaa ∷ 0xa9 ∷ 0x56 ∷ 0xaa ∷ 0x55 ∷ 0xb8 ∷ []) ≡ a-clash 1

@@ -8,7 +8,7 @@ use lib.Dec.{eqb}
 use lib.ListN.{length, getD}
 use Rattle.coil.specs.Track.{end, bit, answerTrack}
 use Rattle.coil.specs.Decoder.{Reading, an-answer, a-clash, reading}
-use Rattle.coil.specs.Read.{IsAnswer}
+use Rattle.coil.specs.Read.{Codable}
 
 -- the union of two tracks: a unit has pulses where one of them has. Where one is longer, its rest stays
 unfoldable pub overlay : List ℕ → List ℕ → List ℕ
@@ -24,7 +24,7 @@ onCoil (r ∷ rs) = overlay (answerTrack r) (onCoil rs)
 -- "Answers have 3 to 8,451 bytes.": every row of a list is such an answer
 pub data Answers : List (List ℕ) → Type 0 where
   none : Answers []
-  more : {r : List ℕ} {rs : List (List ℕ)} → IsAnswer r → Answers rs → Answers (r ∷ rs)
+  more : {r : List ℕ} {rs : List (List ℕ)} → Codable r → Answers rs → Answers (r ∷ rs)
 
 -- "of one length"
 pub data OfLength (n : ℕ) : List (List ℕ) → Type 0 where
@@ -52,12 +52,12 @@ pub record FirstUnlike (n : ℕ) (a : List ℕ) (rs : List (List ℕ)) (read : R
 -- one answer or more, a and rs, laid over each other
 pub record Overlays : Type 0 where
   -- "Identical answers do."
-  pub identical : (a : List ℕ) (rs : List (List ℕ)) → IsAnswer a → AllAre a rs → reading (onCoil (a ∷ rs)) ≡ an-answer a
+  pub identical : (a : List ℕ) (rs : List (List ℕ)) → Codable a → AllAre a rs → reading (onCoil (a ∷ rs)) ≡ an-answer a
   -- of one length, and not all identical
   pub different : (n : ℕ) (a : List ℕ) (rs : List (List ℕ)) → Answers (a ∷ rs) → OfLength n (a ∷ rs) → (AllAre a rs → ⊥)
       → FirstUnlike n a rs (reading (onCoil (a ∷ rs)))
   -- "two different answers of one length, overlaid, never decode as clean"
-  pub two : (a b : List ℕ) → IsAnswer a → IsAnswer b → length a ≡ length b → (a ≡ b → ⊥)
+  pub two : (a b : List ℕ) → Codable a → Codable b → length a ≡ length b → (a ≡ b → ⊥)
       → FirstUnlike (length a) a (b ∷ []) (reading (overlay (answerTrack a) (answerTrack b)))
   -- the end stands nowhere but last: the first byte B8 ends a track, whatever lies over whatever
   pub end-alone : (a : List ℕ) (rs : List (List ℕ)) → Answers (a ∷ rs) → (j : ℕ) → suc j < length (onCoil (a ∷ rs))

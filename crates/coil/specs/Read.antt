@@ -11,7 +11,7 @@ use Rattle.coil.specs.Track.{start, end, answerTrack}
 use Rattle.coil.specs.Decoder.{pairAt, an-answer, a-clash, a-loss, no-track, reading}
 
 -- "Answers have 3 to 8,451 bytes."
-pub record IsAnswer (answer : List ℕ) : Type 0 where
+pub record Codable (answer : List ℕ) : Type 0 where
   pub bytes : Bytes answer
   pub least : shortestAnswer ≤ length answer
   pub most : length answer ≤ longestAnswer
@@ -37,7 +37,7 @@ GoodBefore k t = (i : ℕ) → i < k → Good (pairAt t i)
 -- last bit of all is 67,607, so no two of these are one number
 pub data TrackReads (t found : List ℕ) (r : ℤ) (left : List ℕ) : Type 0 where
   -- to the byte what the coder makes of it
-  answer-read : (answer : List ℕ) → IsAnswer answer → t ≡ answerTrack answer → r ≡ pos (length answer) → left ≡ over answer found → TrackReads t found r left
+  answer-read : (answer : List ℕ) → Codable answer → t ≡ answerTrack answer → r ≡ pos (length answer) → left ≡ over answer found → TrackReads t found r left
   -- "A pair 11 between start and end is a clash": the first pair that is not good
   clash-read : (n k : ℕ) → Framed n t → k < 8 * n → GoodBefore k t → pairAt t k ≡ 3 → r ≡ pos (131072 + k) → left ≡ found → TrackReads t found r left
   -- "00 is lost"

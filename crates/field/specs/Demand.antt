@@ -39,7 +39,8 @@ unfoldable pub lockBytes : List Tag → List (List ℕ)
 lockBytes [] = []
 lockBytes (t ∷ ts) = t .locks ∷ lockBytes ts
 
--- the end of a walk p over the cards tags, us being the UIDs that count: in demand 3 those of the cards that answer its family. The tails that count have at most so many digits
+-- the end of a walk p over the cards tags, us being the UIDs that count: in demand 3 those of the cards that answer its family. The tails
+-- that count have at most so many digits
 pub record Demand3In (digits family : ℕ) (tags : List Tag) (us : List ℕ) (p : Play) : Type 0 where
   pub found : FoundIn digits us (p .walk) (p .list)
   -- the cards keep all but sequence and held answer

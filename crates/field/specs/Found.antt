@@ -17,8 +17,8 @@ Different us = (u : ℕ) → times u us ≤ 1
 unfoldable pub listed : Walk → List ℕ → List ℕ
 listed w list = take (w .count) list
 
--- the walk w and its list at the end; us are the UIDs that count: in demand 3 those of the cards that answer its family. The tails that count have at most so many digits:
--- 15 below, in `Found`
+-- the walk w and its list at the end; us are the UIDs that count: in demand 3 those of the cards that answer its family. The tails
+-- that count have at most so many digits: 15 below, in `Found`
 pub record FoundIn (digits : ℕ) (us : List ℕ) (w : Walk) (list : List ℕ) : Type 0 where
   pub ends : isRunning w ≡ false
   -- "The walk ends complete exactly if at most 64 cards answer its family and no two of these share a UID."

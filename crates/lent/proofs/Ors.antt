@@ -10,7 +10,7 @@ unfoldable pub ors : ℕ → (ℕ → ℕ) → ℕ
 ors zero f = 0
 ors (suc n) f = bitOr (ors n f) (f n)
 
-pub or-none : (a b : ℕ) → bitOr a b ≡ 0 → (a ≡ 0) × (b ≡ 0)
+or-none : (a b : ℕ) → bitOr a b ≡ 0 → (a ≡ 0) × (b ≡ 0)
 or-none a b h = (omega (arith, or-add-and a b, and-le-r a b), omega (arith, or-add-and a b, and-le-l a b))
 
 pub ors-none : (n : ℕ) (f : ℕ → ℕ) → ors n f ≡ 0 → (k : ℕ) → k < n → f k ≡ 0

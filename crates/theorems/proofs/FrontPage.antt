@@ -421,7 +421,7 @@ what-the-coil-tells : (t found : List ℕ) (r : ℤ) (left : List ℕ) → longe
 what-the-coil-tells = coil-read.what-is-told
 
 -- Answers laid over each other: identical ones are read as that answer; others of one length as a clash at the first bit in which they are not all alike,
--- and of any lengths as a clash.
+-- and of any lengths as a clash. B8 stands last alone in all of these.
 answers-overlaid : Overlays
 answers-overlaid = overlays
 
