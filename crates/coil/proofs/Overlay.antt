@@ -58,4 +58,4 @@ end-alone a rs ps (suc i) h is =
     absurd (omega (arith, last, coil-not-lost (a ∷ rs) ps (4 * i + 3) (omega (arith, framed-coil a rs ps .long))))
 
 pub overlays : Overlays
-overlays = record { identical = identical; different = different; two = two; end-alone = end-alone; any-lengths = any-lengths }
+overlays = record { identical = identical; different = different; two = two; any-lengths = any-lengths; end-alone = end-alone }

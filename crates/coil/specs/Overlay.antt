@@ -59,8 +59,8 @@ pub record Overlays : Type 0 where
   -- "two different answers of one length, overlaid, never decode as clean"
   pub two : (a b : List ℕ) → Codable a → Codable b → length a ≡ length b → (a ≡ b → ⊥)
       → FirstUnlike (length a) a (b ∷ []) (reading (overlay (answerTrack a) (answerTrack b)))
+  -- nor do others, whatever their lengths: it is a clash, be it with the end of a shorter one
+  pub any-lengths : (a : List ℕ) (rs : List (List ℕ)) → Answers (a ∷ rs) → (AllAre a rs → ⊥) → (k : ℕ) × (reading (onCoil (a ∷ rs)) ≡ a-clash k)
   -- the end stands nowhere but last: the first byte B8 ends a track, whatever lies over whatever
   pub end-alone : (a : List ℕ) (rs : List (List ℕ)) → Answers (a ∷ rs) → (j : ℕ) → suc j < length (onCoil (a ∷ rs))
       → getD (onCoil (a ∷ rs)) j 0 ≡ end → ⊥
-  -- nor do others, whatever their lengths: it is a clash, be it with the end of a shorter one
-  pub any-lengths : (a : List ℕ) (rs : List (List ℕ)) → Answers (a ∷ rs) → (AllAre a rs → ⊥) → (k : ℕ) × (reading (onCoil (a ∷ rs)) ≡ a-clash k)
