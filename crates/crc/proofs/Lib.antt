@@ -1,3 +1,6 @@
 pub mod Register
+pub mod Xor
+pub mod Linear
+pub mod Entries
 pub mod Seal
 pub mod Examples
