@@ -11,7 +11,7 @@ use lib.Bits.{bitXor}
 use lib.Dec.{eqb}
 use lib.ListN.{length, getD}
 use Rattle.crc.specs.Check.{shifted, shifts, taken}
-use Rattle.crc.specs.Table.{table}
+use Rattle.crc.specs.Table.{table, takenByTable}
 use Rattle.crc.proofs.Linear.{shifts-apart}
 
 -- each of some entries, the first of which stands at place i, is what eight bits make of its place
@@ -34,8 +34,9 @@ all-right = refl
 pub table-rule : (i : ℕ) → i < 256 → getD table i 0 ≡ shifts 8 i
 table-rule i h = right-at 0 table all-right i h ∙ ap (shifts 8) (zero-add i)
 
--- a byte goes in
-pub taken-by-table : (x b : ℕ) → taken x b ≡ bitXor (bitXor x b / 256) (getD table (bitXor x b % 256) 0)
-unfolding taken
+-- a byte goes in by its entry
+pub taken-by-table : (x b : ℕ) → takenByTable x b ≡ taken x b
+unfolding takenByTable taken
 taken-by-table x b =
-    shifts-apart 8 (bitXor x b) ∙ ap (bitXor (bitXor x b / 256)) (sym (table-rule (bitXor x b % 256) (omega arith)))
+    let y : ℕ = bitXor x b in
+    ap (bitXor (y / 256)) (table-rule (y % 256) (omega arith)) ∙ sym (shifts-apart 8 y)

@@ -1,14 +1,14 @@
 -- The register is linear: what leaves two registers that are put over each other is what leaves each, put over each other. So a byte's eight bits leave
 -- at once: the high byte moves down, and what eight bits make of the low byte is put over it. By the laws of exclusive or. Assumes nothing.
 use mathlib.Core.Path.{_≡_, refl, sym, ap, ap₂, _∙_}
-use Prim.Native.Nat.{ℕ, zero, suc, _+_, _*_, _/_, _%_, _^_, _<_}
+use Prim.Native.Nat.{ℕ, zero, suc, _*_, _/_, _%_, _^_, _<_}
 use native.Mathlib.Nat.{mod-lt, mul-one, zero-mul}
 use native.Mathlib.Decide.{ℕ-discrete}
 use native.Mathlib.Omega.{arith}
 use borrow.Author.Tests.{eq-eqb, ne-eqb}
 use lib.Bits.{bitXor, xor-zero-r, xor-self, xor-shr, xor-mod, xor-shifted, shifted-half, shifted-even}
 use lib.Pow.{pow-pos, split}
-use Rattle.crc.specs.Check.{polynomial, shifted, shifts, taken}
+use Rattle.crc.specs.Check.{polynomial, shifted, shifts}
 use Rattle.crc.proofs.Xor.{xor-exchange}
 
 -- the polynomial as often as the bit that leaves says

@@ -8,7 +8,7 @@ use native.Mathlib.Numerals.{add-one}
 use native.Mathlib.Omega.{arith}
 use lib.Bits.{bitXor, xor-lt}
 use lib.Dec.{eqb}
-use lib.ListN.{length, drop, getD}
+use lib.ListN.{length, take, drop, getD}
 use lib.Seq.{drop-cons}
 use Rattle.crc.specs.Check.{polynomial, shifted, shifts, taken, register}
 
@@ -25,7 +25,7 @@ register-append x [] bs = refl
 register-append x (a ∷ m) bs = register-append (taken x a) m bs
 
 -- within sixteen bits it stays there when a bit leaves, when n bits leave, and when a byte goes in
-shifted-fits : (x : ℕ) → x < 65536 → shifted x < 65536
+pub shifted-fits : (x : ℕ) → x < 65536 → shifted x < 65536
 unfolding shifted
 shifted-fits x h = go (eqb (x % 2) 1)
   where
@@ -41,3 +41,9 @@ shifts-fit (suc n) x h = shifts-fit n (shifted x) (shifted-fits x h)
 pub taken-fits : (x b : ℕ) → x < 65536 → b < 256 → taken x b < 65536
 unfolding taken
 taken-fits x b h k = shifts-fit 8 (bitXor x b) (xor-lt 16 x b h (omega arith))
+
+pub register-fits : (n : ℕ) (bs : List ℕ) (x : ℕ) → ((i : ℕ) → getD bs i 0 < 256) → x < 65536 → register x (take n bs) < 65536
+unfolding register
+register-fits zero bs x bytes h = h
+register-fits (suc n) [] x bytes h = h
+register-fits (suc n) (b ∷ bs) x bytes h = register-fits n bs (taken x b) (λ i. bytes (suc i)) (taken-fits x b h (bytes 0))

@@ -35,7 +35,7 @@ unfolding sealed checkBytes
 length-sealed m = length-append m _
 
 -- the last two of a list
-last-two : (m : List ℕ) → 2 ≤ length m → drop (length m - 2) m ≡ getD m (length m - 2) 0 ∷ getD m (length m - 1) 0 ∷ []
+pub last-two : (m : List ℕ) → 2 ≤ length m → drop (length m - 2) m ≡ getD m (length m - 2) 0 ∷ getD m (length m - 1) 0 ∷ []
 last-two m h =
     let next : suc (length m - 2) ≡ length m - 1 = omega arith in
     drop-cons m (length m - 2) 0 (omega arith)

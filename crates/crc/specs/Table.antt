@@ -1,7 +1,10 @@
--- 02, W4: the byte table, "in its place", beside the bit form of Check.antt. The entry at place i is what eight bits make of a register that holds i.
-use Prim.Native.Nat.{ℕ}
+-- 02, check beside the standard's annex: "use the byte-table form in its place", beside the bit form, which stands in Check.antt.
+use Prim.Native.Nat.{ℕ, _/_, _%_}
 use mathlib.Core.List.{List, [], _∷_}
+use lib.Bits.{bitXor}
+use lib.ListN.{getD}
 
+-- the entry at place i is what eight bits make of a register that holds i
 abbrev pub table : List ℕ
 table =
     0x0000 ∷ 0x1189 ∷ 0x2312 ∷ 0x329b ∷ 0x4624 ∷ 0x57ad ∷ 0x6536 ∷ 0x74bf
@@ -36,3 +39,9 @@ table =
     ∷ 0x6b46 ∷ 0x7acf ∷ 0x4854 ∷ 0x59dd ∷ 0x2d62 ∷ 0x3ceb ∷ 0x0e70 ∷ 0x1ff9
     ∷ 0xf78f ∷ 0xe606 ∷ 0xd49d ∷ 0xc514 ∷ 0xb1ab ∷ 0xa022 ∷ 0x92b9 ∷ 0x8330
     ∷ 0x7bc7 ∷ 0x6a4e ∷ 0x58d5 ∷ 0x495c ∷ 0x3de3 ∷ 0x2c6a ∷ 0x1ef1 ∷ 0x0f78 ∷ []
+
+-- a byte b is put over the register's low byte; the high byte moves down, and the entry of the low one is put over it
+unfoldable pub takenByTable : ℕ → ℕ → ℕ
+takenByTable x b =
+    let y : ℕ = bitXor x b in
+    bitXor (y / 256) (getD table (y % 256) 0)

@@ -10,9 +10,12 @@ use lib.IntN.{ℤ, pos}
 use lib.ListN.{length, take, getD, replicate}
 use Rattle.lent.specs.Bytes.{Bytes}
 use Rattle.lent.specs.Lent.{over}
-use Rattle.crc.specs.Check.{sealed, isSealed}
+use Rattle.crc.specs.Check.{preset, shifts, taken, register, sealed, isSealed}
+use Rattle.crc.specs.Table.{table, takenByTable}
 use Rattle.crc.specs.Examples.{Checks}
+use Rattle.crc.proofs.Entries.{table-rule, taken-by-table}
 use Rattle.crc.proofs.Seal.{is-sealed-of-sealed, sealed-of-is-sealed}
+use Rattle.crc.proofs.Residue.{residue}
 use Rattle.crc.proofs.Examples.{checks}
 use Rattle.frames.specs.Flags.{flagsOf, asksInventory}
 use Rattle.frames.specs.Frame.{shortest, longest, longestAnswer, isSound, Sound}
@@ -139,6 +142,18 @@ sealing = is-sealed-of-sealed
 
 sealing-only : (m : List ℕ) → isSealed m ≡ true → m ≡ sealed (take (length m - 2) m)
 sealing-only = sealed-of-is-sealed
+
+-- The code goes by a table, a byte at a time. Every entry is what the annex's calculation makes of its place in eight steps, one for each bit; and for
+-- every register and byte the step by the table is the annex's eight.
+table-entries : (i : ℕ) → i < 256 → getD table i 0 ≡ shifts 8 i
+table-entries = table-rule
+
+table-step : (x b : ℕ) → takenByTable x b ≡ taken x b
+table-step = taken-by-table
+
+-- The annex's receiver takes the check's two bytes into the register as well and looks for F0B8. It finds what the last two bytes say, in every message of bytes.
+receiving : (m : List ℕ) → Bytes m → isSealed m ≡ eqb (register preset m) 0xf0b8
+receiving = residue
 
 -- A frame is sound exactly if it is a message with its check appended, of 4 to 64 bytes in all.
 soundness : (m : List ℕ) → shortest ≤ length m + 2 → length m + 2 ≤ longest → isSound (sealed m) ≡ true

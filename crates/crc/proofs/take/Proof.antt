@@ -1,8 +1,8 @@
 -- `crc::take` meets its contract: eight bits leave at once, by the entry of the low byte. Assumes nothing.
 use borrow.Author.Needs.{needs}
-use mathlib.Core.Path.{sym}
 use native.Mathlib.Nat.{add-sub-cancel-left}
 use native.Mathlib.Omega.{arith}
+use Rattle.crc.specs.Table.{takenByTable}
 use Rattle.crc.proofs.Entries.{taken-by-table}
 use Rattle.crc.proofs.take.Statement.{statement}
 use Rattle.crc.proofs.take.Tie as tie
@@ -17,7 +17,8 @@ cast-low : tie.Need-cast-low
 cast-low c = search needs
 
 returns : tie.Need-returns
-returns c = rw (c .entry .ensures, add-sub-cancel-left) (sym (taken-by-table _ _))
+unfolding takenByTable
+returns c = rw (c .entry .ensures, add-sub-cancel-left) (taken-by-table _ _)
 
 pub take-spec : {M : Type 1} → statement M
 take-spec = tie.close (tie.spec add-entry entry-requires cast-low returns)
