@@ -1,7 +1,8 @@
-//! The check over messages of many lengths.
+//! The check over messages of many lengths, bare and sealed.
 
 use crate::calls::Calls;
 use crate::random::Random;
+use crate::reference::check::sealed;
 
 const TIMES: usize = 20;
 
@@ -10,7 +11,9 @@ pub fn run(calls: &mut Calls, random: &mut Random) {
         calls.check(&vec![0x00; length]);
         calls.check(&vec![0xFF; length]);
         for _ in 0..TIMES {
-            calls.check(&random.bytes(length));
+            let message = random.bytes(length);
+            calls.check(&message);
+            calls.check(&sealed(&message));
         }
     }
     one_bit(calls, 66);

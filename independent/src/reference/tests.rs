@@ -1,10 +1,11 @@
-//! The reference against itself: three ways to the same field. And families.
+//! The reference against itself: three ways to the same field. And families,
+//! and the check of sealed messages.
 
 use std::collections::BTreeSet;
 
 use super::bench::{bench, Verdict};
 use super::card::{frame, Card, Said::Answer};
-use super::check::sealed;
+use super::check::{check, sealed};
 use super::field::{card, play, together, Air};
 use super::tails::{is_complete, rounds};
 use super::walk::{Ending, Walk, PLACES};
@@ -107,6 +108,16 @@ fn a_rack_asked_for_its_burrs() {
     let list = vec![0x05, 0x11, 0x21];
     let verdict = Verdict { ending: Ending::Complete, rounds: 2, list };
     assert_eq!(played(0x30, cards, together), verdict);
+}
+
+/// The residue F0B8, complemented, as vectors/check.txt has it.
+#[test]
+fn sealed_messages_have_the_check_0f47() {
+    let mut random = Random::new(4);
+    for length in 0..=300 {
+        let message = random.bytes(length);
+        assert_eq!(check(&sealed(&message)), 0x0F47, "{message:02X?}");
+    }
 }
 
 #[test]
