@@ -46,6 +46,7 @@ pub const GROUPS: &[(&str, Group)] = &[
     ("coil, decoder", coil::decoding::run),
     ("coil, overlays", coil::overlays::run),
     ("fields on the coil", fields::coil::run),
+    ("checks, every entry", checks::entries::run),
 ];
 
 /// Bytes that tracks are made of, and some that almost are.

@@ -1,5 +1,7 @@
 //! The check over messages of many lengths, bare and sealed.
 
+pub mod entries;
+
 use crate::calls::Calls;
 use crate::random::Random;
 use crate::reference::check::sealed;
