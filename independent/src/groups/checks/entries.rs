@@ -1,14 +1,14 @@
-//! The check over messages as long as the longest frame. Worked out by a table,
-//! a look-up a byte, it uses every entry at every place.
+//! The check over messages of 64 bytes. Worked out by a table, a look-up a byte,
+//! it uses every entry at every place.
 
 use crate::calls::Calls;
 use crate::crowds::shuffle;
 use crate::groups::counts::Counts;
 use crate::random::Random;
 use crate::reference::check::check_sent;
-use crate::reference::FRAME_MAX;
 
 const ENTRIES: usize = 256;
+const PLACES: usize = 64;
 const RANDOM: usize = 4000;
 
 const EACH_ENTRY: &str = "each entry at each place";
@@ -16,7 +16,7 @@ const EACH_ENTRY: &str = "each entry at each place";
 pub fn run(calls: &mut Calls, random: &mut Random) {
     let mut counts = expected();
     // At each place each message uses another entry.
-    let orders: Vec<Vec<u8>> = (0..FRAME_MAX).map(|_| any_order(random)).collect();
+    let orders: Vec<Vec<u8>> = (0..PLACES).map(|_| any_order(random)).collect();
     for turn in 0..ENTRIES {
         let message = message_using(orders.iter().map(|order| order[turn]));
         for (place, entry) in entries_used(&message).enumerate() {
@@ -25,7 +25,7 @@ pub fn run(calls: &mut Calls, random: &mut Random) {
         calls.check(&message);
     }
     for _ in 0..RANDOM {
-        calls.check(&random.bytes(FRAME_MAX));
+        calls.check(&random.bytes(PLACES));
     }
     counts.end(&mut calls.tally, "entries used by messages of 64 bytes");
     calls.tally.must_have_compared((ENTRIES + RANDOM) as u64);
@@ -33,7 +33,7 @@ pub fn run(calls: &mut Calls, random: &mut Random) {
 
 fn expected() -> Counts {
     let mut counts = Counts::default();
-    for place in 0..FRAME_MAX {
+    for place in 0..PLACES {
         for entry in 0..=255 {
             counts.expect_cell(EACH_ENTRY, cell(place, entry));
         }
