@@ -1,8 +1,8 @@
 /*
  * The library's check, coders, decoders and card beside the same in plain C;
- * its decoder, and the coil's coder and decoder, beside the best that we know
- * too. All take turns at the clock. The script run makes a table of what is
- * printed here.
+ * its check beside a bit form too, and its decoder, and the coil's coder and
+ * decoder, beside the best that we know. All take turns at the clock. The
+ * script run makes a table of what is printed here.
  *
  *     bench time|same
  */
@@ -26,6 +26,7 @@
 
 struct side {
     uint16_t (*check)(const uint8_t *, size_t);
+    uint16_t (*check_by_bits)(const uint8_t *, size_t);
     int64_t (*code)(const uint8_t *, size_t, uint32_t, uint8_t *, size_t);
     int64_t (*decode)(const uint8_t *, size_t, uint8_t *, size_t);
     int64_t (*coil_code)(const uint8_t *, size_t, uint8_t *, size_t);
@@ -37,16 +38,18 @@ struct side {
 };
 
 static const struct side SIDES[] = {
-    [OURS] = {ek_check, ek_code, ek_decode, ek_coil_code, ek_coil_decode,
-              ek_card_frame, ek_card_mark},
-    [PLAIN] = {plain_check, plain_code, plain_decode, plain_coil_code,
-               plain_coil_decode, plain_card_frame, plain_card_mark},
+    [OURS] = {ek_check, ek_check, ek_code, ek_decode, ek_coil_code,
+              ek_coil_decode, ek_card_frame, ek_card_mark},
+    [PLAIN] = {plain_check, plain_check_by_bits, plain_code, plain_decode,
+               plain_coil_code, plain_coil_decode, plain_card_frame,
+               plain_card_mark},
     [BEST] = {.decode = best_decode, .coil_code = best_coil_code,
               .coil_decode = best_coil_decode},
 };
 
-enum task { CHECK, CODE, DECODE, COIL_CODE, COIL_DECODE, COIL_CLASH, FRAME,
-            MARK };
+/* The library has one check: CHECK_BY_BITS is that beside the bit form. */
+enum task { CHECK, CHECK_BY_BITS, CODE, DECODE, COIL_CODE, COIL_DECODE,
+            COIL_CLASH, FRAME, MARK };
 
 /* A frame's row has the message that the cards are sent. */
 struct row {
@@ -60,6 +63,8 @@ struct row {
 static const struct row ROWS[] = {
     {"check, 10 bytes", CHECK, 0, 10, {0}},
     {"check, 64 bytes", CHECK, 0, 64, {0}},
+    {"check, 10 bytes, beside the bit form", CHECK_BY_BITS, 0, 10, {0}},
+    {"check, 64 bytes, beside the bit form", CHECK_BY_BITS, 0, 64, {0}},
     {"coder, 1 of 4, 16 bytes", CODE, EK_ONE_OF_4, 16, {0}},
     {"coder, 1 of 4, 64 bytes", CODE, EK_ONE_OF_4, 64, {0}},
     {"coder, 1 of 256, 16 bytes", CODE, EK_ONE_OF_256, 16, {0}},
@@ -183,6 +188,7 @@ static void prepare(size_t i)
     const struct row *row = &ROWS[i];
     switch (row->task) {
     case CHECK:
+    case CHECK_BY_BITS:
     case CODE:
     case DECODE:
         fill_tracks(row);
@@ -214,6 +220,9 @@ static double turn(size_t i, enum who who, unsigned passes)
             switch (row->task) {
             case CHECK:
                 sum += side->check(frames[f], row->length);
+                break;
+            case CHECK_BY_BITS:
+                sum += side->check_by_bits(frames[f], row->length);
                 break;
             case CODE:
                 sum += (uint64_t)side->code(frames[f], row->length, row->coding,
@@ -262,6 +271,7 @@ int main(int count, char **given)
 {
     bool timed = asked_for_times(count, given);
     fill_frames();
+    must_check_same();
     for (size_t f = 0; f < FRAMES; f++) {
         must_be_same(frames[f]);
     }

@@ -6,7 +6,11 @@
 #include <stddef.h>
 #include <stdint.h>
 
+/* By a table, as the library does: the check of all plain programs. */
 uint16_t plain_check(const uint8_t *bytes, size_t length);
+
+/* The same bit by bit, as a peer for the check alone. */
+uint16_t plain_check_by_bits(const uint8_t *bytes, size_t length);
 
 int64_t plain_code(const uint8_t *frame, size_t length, uint32_t coding,
                    uint8_t *track, size_t room);

@@ -1,7 +1,7 @@
 /*
  * The form of the library's card in plain C: the record read into a struct, the
  * four refusals, what the frame decides, memory and locks changed, the answer
- * with its check, the record put back. The check is plain.c's, bit by bit.
+ * with its check, the record put back. The check is plain.c's, by a table.
  */
 #include "plain_card.h"
 

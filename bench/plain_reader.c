@@ -1,8 +1,8 @@
 /*
  * The form of the library's reader in plain C: the request by value, the
  * refusals in their order, head and body put and sealed; of an answer the part
- * after the flags goes to the command that owns it. The check is plain.c's, bit
- * by bit.
+ * after the flags goes to the command that owns it. The check is plain.c's, by
+ * a table.
  */
 #include "plain_reader.h"
 

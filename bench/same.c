@@ -20,6 +20,20 @@ static void must(bool holds, const char *what)
     }
 }
 
+static void check(const uint8_t *bytes, size_t length)
+{
+    uint16_t x = ek_check(bytes, length);
+    must(x == plain_check(bytes, length), "check");
+    must(x == plain_check_by_bits(bytes, length), "check, bit by bit");
+}
+
+void must_check_same(void)
+{
+    for (int value = 0; value <= UINT8_MAX; value++) {
+        check(&(uint8_t){(uint8_t)value}, 1);
+    }
+}
+
 /* Returns the answer, and leaves the track in the caller's buffer. */
 static int64_t code(const uint8_t *frame, size_t length, uint32_t coding,
                     uint8_t *track, size_t room)
@@ -53,7 +67,7 @@ void must_be_same(const uint8_t *frame)
 {
     static uint8_t track[EK_TRACK_MAX];
     for (size_t length = 0; length <= EK_FRAME_MAX; length++) {
-        must(ek_check(frame, length) == plain_check(frame, length), "check");
+        check(frame, length);
         for (uint32_t coding = 0; coding <= EK_ONE_OF_256; coding++) {
             int64_t n = code(frame, length, coding, track, sizeof track);
             decode(track, (size_t)n, EK_FRAME_MAX);

@@ -6,6 +6,9 @@
 
 #include <stdint.h>
 
+/* The check of each byte alone: every entry of a table is looked up. */
+void must_check_same(void);
+
 /* A frame of EK_FRAME_MAX bytes and its first bytes: check, track and back. */
 void must_be_same(const uint8_t *frame);
 
