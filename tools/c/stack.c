@@ -1,7 +1,7 @@
 /*
  * How much stack the calls take. Each call runs on a stack of its own that was
  * painted before; the lowest byte that has changed tells how deep it went. The
- * greatest depth of all calls is printed, in bytes.
+ * greatest depth of all calls is printed, in bytes, and then that of ek_check.
  */
 #define _XOPEN_SOURCE 700
 #include <stdio.h>
@@ -158,13 +158,20 @@ static void measure(void (*what)(void))
     }
 }
 
+/* The check of all lengths of a frame. */
+static void checks(void)
+{
+    for (length = 0; length <= EK_FRAME_MAX; length++) {
+        measure(check);
+    }
+}
+
 /* Frames of all lengths, and their tracks in both codings. */
 static void tracks(void)
 {
     for (size_t n = 0; n + 2 <= EK_FRAME_MAX; n++) {
         for (coding = EK_ONE_OF_4; coding <= EK_ONE_OF_256; coding++) {
             length = n;
-            measure(check);
             measure(seal);
             length = n + 2;
             measure(is_sound);
@@ -278,12 +285,14 @@ static void coil(void)
 
 int main(void)
 {
+    checks();
+    size_t most_of_check = most;
     measure(version);
     tracks();
     card();
     walks();
     reader();
     coil();
-    printf("%u\n", (unsigned)most);
+    printf("%u %u\n", (unsigned)most, (unsigned)most_of_check);
     return 0;
 }
