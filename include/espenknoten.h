@@ -109,6 +109,7 @@ uint32_t ek_version(void);
 /*
  * The check (CRC) of ISO/IEC 13239 over length bytes. It is sent low byte
  * first. No bytes have the check 0x0000. Refuses nothing.
+ * Its table is constant data of the archive, read in place and not copied.
  */
 uint16_t ek_check(const uint8_t *bytes, size_t length);
 
