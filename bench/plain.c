@@ -5,7 +5,7 @@
  * where the library passes eight bytes 00 at a time; a coil's track it passes
  * sixteen bytes at a time, as the library does.
  *
- * The check stands here bit by bit too, for a row of its own. No other plain
+ * The check stands here bit by bit too, for rows of its own. No other plain
  * file calls that one.
  */
 #include "plain.h"
