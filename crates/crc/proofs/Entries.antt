@@ -31,7 +31,10 @@ all-right : right 0 table ≡ true
 unfolding shifted shifts
 all-right = refl
 
-pub table-rule : (i : ℕ) → i < 256 → getD table i 0 ≡ shifts 8 i
+pub table-length : length table ≡ 256
+table-length = refl
+
+pub table-rule : (i : ℕ) → i < length table → getD table i 0 ≡ shifts 8 i
 table-rule i h = right-at 0 table all-right i h ∙ ap (shifts 8) (zero-add i)
 
 -- a byte goes in by its entry

@@ -1,6 +1,6 @@
 pub mod Register
-pub mod Xor
-pub mod Linear
+mod Xor
+mod Linear
 pub mod Entries
 pub mod Seal
 pub mod Residue

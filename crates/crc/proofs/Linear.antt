@@ -21,18 +21,18 @@ shifted-by x = go (ℕ-discrete (x % 2) 1)
     go (no e) = let even : x % 2 ≡ 0 = omega arith in rw (ne-eqb (x % 2) 1 e, even) (sym (xor-zero-r (x / 2)))
 
 -- two bits that leave
-of-bits : (p a b : ℕ) → a < 2 → b < 2 → bitXor a b * p ≡ bitXor (a * p) (b * p)
-of-bits p zero b h k = rw (zero-mul p)
-of-bits p (suc zero) zero h k = rw (zero-mul p) (sym (xor-zero-r (1 * p)))
-of-bits p (suc zero) (suc zero) h k = rw (zero-mul p) (sym (xor-self (1 * p)))
-of-bits p (suc zero) (suc (suc b)) h k = absurd (omega arith)
-of-bits p (suc (suc a)) b h k = absurd (omega arith)
+bits-times : (p a b : ℕ) → a < 2 → b < 2 → bitXor a b * p ≡ bitXor (a * p) (b * p)
+bits-times p zero b h k = rw (zero-mul p)
+bits-times p (suc zero) zero h k = rw (zero-mul p) (sym (xor-zero-r (1 * p)))
+bits-times p (suc zero) (suc zero) h k = rw (zero-mul p) (sym (xor-self (1 * p)))
+bits-times p (suc zero) (suc (suc b)) h k = absurd (omega arith)
+bits-times p (suc (suc a)) b h k = absurd (omega arith)
 
-pub shifted-over : (x y : ℕ) → shifted (bitXor x y) ≡ bitXor (shifted x) (shifted y)
+shifted-over : (x y : ℕ) → shifted (bitXor x y) ≡ bitXor (shifted x) (shifted y)
 shifted-over x y =
     shifted-by (bitXor x y)
     ∙ ap₂ bitXor (xor-shr x y 1)
-    (ap (λ (b : ℕ). b * polynomial) (xor-mod x y 1) ∙ of-bits polynomial (x % 2) (y % 2) (omega arith) (omega arith))
+    (ap (λ (b : ℕ). b * polynomial) (xor-mod x y 1) ∙ bits-times polynomial (x % 2) (y % 2) (omega arith) (omega arith))
     ∙ xor-exchange (x / 2) (y / 2) (x % 2 * polynomial) (y % 2 * polynomial)
     ∙ sym (ap₂ bitXor (shifted-by x) (shifted-by y))
 

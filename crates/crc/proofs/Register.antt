@@ -42,6 +42,7 @@ pub taken-fits : (x b : ℕ) → x < 65536 → b < 256 → taken x b < 65536
 unfolding taken
 taken-fits x b h k = shifts-fit 8 (bitXor x b) (xor-lt 16 x b h (omega arith))
 
+-- and when the first n bytes of a message go in
 pub register-fits : (n : ℕ) (bs : List ℕ) (x : ℕ) → ((i : ℕ) → getD bs i 0 < 256) → x < 65536 → register x (take n bs) < 65536
 unfolding register
 register-fits zero bs x bytes h = h

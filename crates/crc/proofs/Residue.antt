@@ -107,9 +107,9 @@ register-ends m h =
     ∙ register-append preset (take rest m) (drop rest m)
     ∙ ap (register (register preset (take rest m))) (last-two m h)
 
-longer : (m : List ℕ) → ((i : ℕ) → getD m i 0 < 256) → 2 ≤ length m → isSealed m ≡ eqb (register preset m) 0xf0b8
+residue-longer : (m : List ℕ) → ((i : ℕ) → getD m i 0 < 256) → 2 ≤ length m → isSealed m ≡ eqb (register preset m) 0xf0b8
 unfolding isSealed checkOf
-longer m bytes h =
+residue-longer m bytes h =
     let rest : ℕ = length m - 2 in
     let x : ℕ = register preset (take rest m) in
     let fits : x < 65536 = register-fits rest m preset bytes (omega arith) in
@@ -121,4 +121,4 @@ pub residue : (m : List ℕ) → ((i : ℕ) → getD m i 0 < 256) → isSealed m
 unfolding isSealed register
 residue [] bytes = refl
 residue (b ∷ []) bytes = sym (one-byte b (bytes 0))
-residue (b ∷ c ∷ m) bytes = longer (b ∷ c ∷ m) bytes (omega arith)
+residue (b ∷ c ∷ m) bytes = residue-longer (b ∷ c ∷ m) bytes (omega arith)

@@ -5,7 +5,7 @@ ghost use Prim.Native.Nat.{_-_};
 ghost use lib.ListN.{getD};
 ghost use Rattle.crc.specs.Table.{table};
 
-// The entry with a key: what eight bits make of a register that holds its place.
+// The entry with a key: what eight bits make of a register that holds its place; 0 for any other key.
 pub(crate) fn entry(key: u32) -> u16
     ensures { λ r. ⌜ r ≡ getD table (key - 256) 0 ⌝ }
 {

@@ -13,7 +13,7 @@ use Rattle.lent.specs.Lent.{over}
 use Rattle.crc.specs.Check.{preset, shifts, taken, register, sealed, isSealed}
 use Rattle.crc.specs.Table.{table, takenByTable}
 use Rattle.crc.specs.Examples.{Checks}
-use Rattle.crc.proofs.Entries.{table-rule, taken-by-table}
+use Rattle.crc.proofs.Entries.{table-length, table-rule, taken-by-table}
 use Rattle.crc.proofs.Seal.{is-sealed-of-sealed, sealed-of-is-sealed}
 use Rattle.crc.proofs.Residue.{residue}
 use Rattle.crc.proofs.Examples.{checks}
@@ -143,15 +143,19 @@ sealing = is-sealed-of-sealed
 sealing-only : (m : List ℕ) → isSealed m ≡ true → m ≡ sealed (take (length m - 2) m)
 sealing-only = sealed-of-is-sealed
 
--- The code goes by a table, a byte at a time. Every entry is what the annex's calculation makes of its place in eight steps, one for each bit; and for
--- every register and byte the step by the table is the annex's eight.
-table-entries : (i : ℕ) → i < 256 → getD table i 0 ≡ shifts 8 i
+-- The code goes by a table of 256 entries, a byte at a time. Every entry is what the annex's calculation makes of its place in eight steps, one for each bit;
+-- and for every register and byte the step by the table is the annex's eight.
+table-of-bytes : length table ≡ 256
+table-of-bytes = table-length
+
+table-entries : (i : ℕ) → i < length table → getD table i 0 ≡ shifts 8 i
 table-entries = table-rule
 
 table-step : (x b : ℕ) → takenByTable x b ≡ taken x b
 table-step = taken-by-table
 
--- The annex's receiver takes the check's two bytes into the register as well and looks for F0B8. It finds what the last two bytes say, in every message of bytes.
+-- The annex's receiver takes the check's two bytes into the register as well and looks for F0B8. In every message of bytes it finds that exactly if the last
+-- two are the check of the rest.
 receiving : (m : List ℕ) → Bytes m → isSealed m ≡ eqb (register preset m) 0xf0b8
 receiving = residue
 

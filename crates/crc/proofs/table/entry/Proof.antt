@@ -38,6 +38,10 @@ no-entry x none = go (outside x 256 none)
 arm : (x k e : ℕ) → x ≡ k → e ≡ getD table (k - 256) 0 → e ≡ getD table (x - 256) 0
 arm x k e h found = rw h found
 
+-- the arm that a wrong program changes
+arm-80 : tie.Need-returns-129
+arm-80 c = search arm
+
 no-arm : tie.Need-returns-257
 no-arm c = no-entry _ (c .match .rest)
 
@@ -61,7 +65,7 @@ entry-spec =
     (λ c. search arm) (λ c. search arm) (λ c. search arm) (λ c. search arm) (λ c. search arm) (λ c. search arm) (λ c. search arm) (λ c. search arm)
     (λ c. search arm) (λ c. search arm) (λ c. search arm) (λ c. search arm) (λ c. search arm) (λ c. search arm) (λ c. search arm) (λ c. search arm)
     (λ c. search arm) (λ c. search arm) (λ c. search arm) (λ c. search arm) (λ c. search arm) (λ c. search arm) (λ c. search arm) (λ c. search arm)
-    (λ c. search arm) (λ c. search arm) (λ c. search arm) (λ c. search arm) (λ c. search arm) (λ c. search arm) (λ c. search arm) (λ c. search arm)
+    arm-80 (λ c. search arm) (λ c. search arm) (λ c. search arm) (λ c. search arm) (λ c. search arm) (λ c. search arm) (λ c. search arm)
     (λ c. search arm) (λ c. search arm) (λ c. search arm) (λ c. search arm) (λ c. search arm) (λ c. search arm) (λ c. search arm) (λ c. search arm)
     (λ c. search arm) (λ c. search arm) (λ c. search arm) (λ c. search arm) (λ c. search arm) (λ c. search arm) (λ c. search arm) (λ c. search arm)
     (λ c. search arm) (λ c. search arm) (λ c. search arm) (λ c. search arm) (λ c. search arm) (λ c. search arm) (λ c. search arm) (λ c. search arm)
