@@ -54,9 +54,9 @@ xor-complement (suc k) a h =
     let other : ℕ = 2 ^ suc k - 1 - a in
     let half : other / 2 ≡ 2 ^ k - 1 - a / 2 = omega (arith, double, h) in
     let bit : other % 2 ≡ 1 - a % 2 = omega (arith, double, h) in
-    let above : bitXor (a / 2) (2 ^ k - 1 - a / 2) ≡ 2 ^ k - 1 = xor-complement k (a / 2) (omega (arith, double, h)) in
-    let step : bitXor a other ≡ (2 ^ k - 1) * 2 + 1 =
-    xor-step a other ∙ ap₂ (λ (x y : ℕ). x * 2 + y) (ap (bitXor (a / 2)) half ∙ above) (ap (differ (a % 2)) bit ∙ last (a % 2) (omega arith)) in
+    let above = ap (bitXor (a / 2)) half ∙ xor-complement k (a / 2) (omega (arith, double, h)) in
+    let below = ap (differ (a % 2)) bit ∙ last (a % 2) (omega arith) in
+    let step : bitXor a other ≡ (2 ^ k - 1) * 2 + 1 = xor-step a other ∙ ap₂ (λ (x y : ℕ). x * 2 + y) above below in
     omega (arith, double, h, step)
   where
     last : (x : ℕ) → x < 2 → differ x (1 - x) ≡ 1
