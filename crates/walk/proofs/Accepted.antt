@@ -15,11 +15,11 @@ use Rattle.walk.specs.declared.Slot.the-variants.{Silent, Clashed, Clean
 use Rattle.walk.specs.Marks.{levels, deepest, withMark, withoutMark, lowest}
 use Rattle.walk.specs.Record.{levelsOf, mostRounds, maskLength, isAccepted}
 use Rattle.walk.specs.Record.{remade, ended, counted, marked, atNextSlot, openedAt, opened, noMarks, startedOf, started}
-use Rattle.walk.specs.Hear.{judged, endsAtOnce, noted, turned, passed, walkAfter, refusal, Hearing, hearing}
+use Rattle.walk.specs.Hear.{judged, hasPlace, endsAtOnce, noted, turned, passed, walkAfter, refusal, Hearing, hearing}
 use Rattle.walk.proofs.Levels.{lowest-is-slot, deepest-none, deepest-set}
 use Rattle.walk.proofs.LevelsStay.{levels-started}
 use Rattle.walk.proofs.Limits.{Accepted, accepted-of-is-accepted, is-accepted-of-accepted, opened-mask-fits}
-use Rattle.walk.proofs.HearWays.{clash-goes-on, clean-goes-on}
+use Rattle.walk.proofs.HearWays.{clash-goes-on, clean-goes-on, place-below}
 
 pub started-facts : (levels family : ℕ) → 1 ≤ levels → Accepted (startedOf levels family)
 unfolding startedOf maskLength mostRounds
@@ -138,21 +138,23 @@ module _ (w : Walk) (a : Accepted w) where
       by-test (ltb (w .slot) 15) (atNextSlot w) (turned w (deepest (w .marks))) (λ e. next-slot-facts (ltb-true (w .slot) 15 e))
       (λ e. turned-facts (deepest (w .marks)) refl)
 
-  pub noted-facts : (slot : Slot) → endsAtOnce w slot ≡ 0 → Accepted (noted w slot)
-  unfolding noted
-  noted-facts Silent e = a
-  noted-facts Clashed e = marked-facts (clash-goes-on w {slot = Clashed} refl e)
-  noted-facts (Clean uid) e = counted-facts (clean-goes-on w {slot = Clean uid} {uid = uid} refl e)
+  -- where a place for a clean UID is one of 64
+  module _ (place : Bool) (few : place ≡ true → w .count < 64) where
+    pub noted-facts : (slot : Slot) → endsAtOnce w slot place ≡ 0 → Accepted (noted w slot)
+    unfolding noted
+    noted-facts Silent e = a
+    noted-facts Clashed e = marked-facts (clash-goes-on w place {slot = Clashed} refl e)
+    noted-facts (Clean uid) e = counted-facts (few (clean-goes-on w {slot = Clean uid} {place = place} {uid = uid} refl e))
 
-after-facts : (w : Walk) → Accepted w → (slot : Slot) → Accepted (walkAfter w slot)
+after-facts : (w : Walk) → Accepted w → (slot : Slot) (place : Bool) → (place ≡ true → w .count < 64) → Accepted (walkAfter w slot place)
 unfolding walkAfter
-after-facts w a slot =
-    by-test (eqb (endsAtOnce w slot) 0) (passed (noted w slot)) (ended (endsAtOnce w slot) w)
-    (λ e. passed-facts (noted w slot) (noted-facts w a slot (eqb-true (endsAtOnce w slot) 0 e))) (λ e. ended-facts w a (endsAtOnce w slot))
+after-facts w a slot place few =
+    by-test (eqb (endsAtOnce w slot place) 0) (passed (noted w slot)) (ended (endsAtOnce w slot place) w)
+    (λ e. passed-facts (noted w slot) (noted-facts w a place few slot (eqb-true (endsAtOnce w slot place) 0 e))) (λ e. ended-facts w a (endsAtOnce w slot place))
 
 -- after a slot
-pub after-accepted : (w : Walk) (slot : Slot) → isAccepted w ≡ true → isAccepted (walkAfter w slot) ≡ true
-after-accepted w slot h = is-accepted-of-accepted (walkAfter w slot) (after-facts w (accepted-of-is-accepted w h) slot)
+pub after-accepted : (w : Walk) (slot : Slot) (place : Bool) → (place ≡ true → w .count < 64) → isAccepted w ≡ true → isAccepted (walkAfter w slot place) ≡ true
+after-accepted w slot place few h = is-accepted-of-accepted (walkAfter w slot place) (after-facts w (accepted-of-is-accepted w h) slot place few)
 
 -- with any ending
 pub ended-accepted : (w : Walk) (ending : ℕ) → isAccepted w ≡ true → isAccepted (ended ending w) ≡ true
@@ -166,4 +168,4 @@ heard-either false x y p q = q
 -- after a call, refused or not
 pub heard-accepted : (w : Walk) (kind : Kind) (bytes list : List ℕ) → isAccepted w ≡ true → isAccepted (hearing w kind bytes list .walk) ≡ true
 unfolding hearing
-heard-accepted w kind bytes list h = heard-either (eqb (refusal w (length list)) 0) _ _ (after-accepted w (judged w kind bytes) h) h
+heard-accepted w kind bytes list h = heard-either (eqb (refusal w (length list)) 0) _ _ (after-accepted w (judged w kind bytes) (hasPlace w) (place-below w) h) h

@@ -15,7 +15,7 @@ use Rattle.walk.specs.declared.Slot.the-variants.{Silent}
 use Rattle.walk.specs.Marks.{levels, deepestOf, deepest}
 use Rattle.walk.specs.Record.{places, levelsOf, mostRounds, mostSlots, maskLength, complete, isRunning, marksFit, isAccepted}
 use Rattle.walk.specs.Record.{remade, ended, atNextSlot, noMarks, startedOf, started}
-use Rattle.walk.specs.Hear.{judged, endsAtOnce, noted, listNoted, turned, passed, walkAfter, listAfter, refusal, Hearing, hearing}
+use Rattle.walk.specs.Hear.{judged, hasPlace, endsAtOnce, noted, listNoted, turned, passed, walkAfter, listAfter, refusal, Hearing, hearing}
 use Rattle.walk.specs.Examples.{silentSlots, atSlot, Walks}
 
 -- the slots of the first round
@@ -49,7 +49,7 @@ unfolding silentSlots
 all-silent family list h =
     ap (λ (x : Hearing). hearing (x .walk) Silence [] (x .list)) (silent-slots family 15 list h (omega arith)) ∙ silent-last family list h
 
-last-slot : (w : Walk) → w .slot ≡ 15 → walkAfter w Silent ≡ turned w (deepest (w .marks))
+last-slot : (w : Walk) → w .slot ≡ 15 → walkAfter w Silent (hasPlace w) ≡ turned w (deepest (w .marks))
 unfolding walkAfter endsAtOnce noted passed
 last-slot w e = rw e
 
@@ -76,7 +76,7 @@ unfolding isAccepted marksFit places maskLength levelsOf
 tests w l = rw (l, limit)
 
 pub walks : Walks
-unfolding walkAfter endsAtOnce noted turned places
+unfolding walkAfter hasPlace endsAtOnce noted turned places
 walks =
     record {
       empty-field = all-silent;

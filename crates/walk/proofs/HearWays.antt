@@ -12,7 +12,7 @@ use Rattle.walk.specs.declared.Kind.{Kind}
 use Rattle.walk.specs.declared.Slot.{Slot}
 use Rattle.walk.specs.declared.Slot.the-variants.{Clashed, Clean}
 use Rattle.walk.specs.Record.{places, levelsOf, mostRounds, isRunning, isAccepted, ended, opened}
-use Rattle.walk.specs.Hear.{judged, endsAtOnce, noted, listNoted, turned, passed, walkAfter, listAfter, refusal, hearing, Hears}
+use Rattle.walk.specs.Hear.{judged, hasPlace, endsAtOnce, noted, listNoted, turned, passed, walkAfter, listAfter, refusal, hearing, Hears}
 use Rattle.walk.specs.Steps.{After}
 
 -- ---- a slot that ends nothing at once
@@ -25,13 +25,23 @@ below-of-cond a b n other e = go (ltb a b) refl e
     go true is e = ltb-true a b is
     go false is e = absurd (other e)
 
-pub clash-goes-on : (w : Walk) {slot : Slot} → slot ≡ Clashed → endsAtOnce w slot ≡ 0 → w .level + 1 < length (w .marks)
+pub clash-goes-on : (w : Walk) (place : Bool) {slot : Slot} → slot ≡ Clashed → endsAtOnce w slot place ≡ 0 → w .level + 1 < length (w .marks)
 unfolding endsAtOnce levelsOf
-clash-goes-on w is e = below-of-cond (w .level + 1) (length (w .marks)) 2 (λ h. omega arith) (sym (ap (λ (s : Slot). endsAtOnce w s) is) ∙ e)
+clash-goes-on w place is e =
+    below-of-cond (w .level + 1) (length (w .marks)) 2 (λ h. omega arith) (sym (ap (λ (s : Slot). endsAtOnce w s place) is) ∙ e)
 
-pub clean-goes-on : (w : Walk) {slot : Slot} {uid : ℕ} → slot ≡ Clean uid → endsAtOnce w slot ≡ 0 → w .count < 64
-unfolding endsAtOnce places
-clean-goes-on w is e = below-of-cond (w .count) 64 3 (λ h. omega arith) (sym (ap (λ (s : Slot). endsAtOnce w s) is) ∙ e)
+pub clean-goes-on : (w : Walk) {slot : Slot} {place : Bool} {uid : ℕ} → slot ≡ Clean uid → endsAtOnce w slot place ≡ 0 → place ≡ true
+unfolding endsAtOnce
+clean-goes-on w {slot} {place} is e = go place (sym (ap (λ (s : Slot). endsAtOnce w s place) is) ∙ e)
+  where
+    go : (b : Bool) → _≡_ {A = ℕ} (cond b 0 3) 0 → b ≡ true
+    go true e = refl
+    go false e = absurd (omega arith)
+
+-- the walk's own list
+pub place-below : (w : Walk) → hasPlace w ≡ true → w .count < 64
+unfolding hasPlace places
+place-below w e = ltb-true (w .count) 64 e
 
 -- ---- after slot 15
 
@@ -53,17 +63,17 @@ turned-overrun w n h k =
 
 -- ---- what a slot leaves behind
 
-pub after-ending : (w : Walk) (slot : Slot) (list : List ℕ) (n : ℕ) (r : Walk) → n ≡ endsAtOnce w slot → (n ≡ 0 → ⊥) → r ≡ ended n w
-    → After (walkAfter w slot) (listAfter w slot list) r list
+pub after-ending : (w : Walk) (slot : Slot) (place : Bool) (at : ℕ) (list : List ℕ) (n : ℕ) (r : Walk) → n ≡ endsAtOnce w slot place → (n ≡ 0 → ⊥)
+    → r ≡ ended n w → After (walkAfter w slot place) (listAfter w slot place at list) r list
 unfolding walkAfter listAfter
-after-ending w slot list n r is h e =
-    let other : eqb (endsAtOnce w slot) 0 ≡ false = rw (← is) (ne-eqb n 0 h) in
+after-ending w slot place at list n r is h e =
+    let other : eqb (endsAtOnce w slot place) 0 ≡ false = rw (← is) (ne-eqb n 0 h) in
     record { walk-left = rw (other, ← is) e; list-left = rw other }
 
-pub after-passing : (w : Walk) (slot : Slot) (list : List ℕ) (r : Walk) (left : List ℕ) → endsAtOnce w slot ≡ 0 → r ≡ passed (noted w slot)
-    → left ≡ listNoted w slot list → After (walkAfter w slot) (listAfter w slot list) r left
+pub after-passing : (w : Walk) (slot : Slot) (place : Bool) (at : ℕ) (list : List ℕ) (r : Walk) (left : List ℕ) → endsAtOnce w slot place ≡ 0
+    → r ≡ passed (noted w slot) → left ≡ listNoted slot at list → After (walkAfter w slot place) (listAfter w slot place at list) r left
 unfolding walkAfter listAfter
-after-passing w slot list r left is e f = record { walk-left = rw is e; list-left = rw is f }
+after-passing w slot place at list r left is e f = record { walk-left = rw is e; list-left = rw is f }
 
 -- ---- the call
 
@@ -92,7 +102,7 @@ hears-refused w kind bytes list n is h =
     record { walk = rw other; number = rw (other, ← is); list-left = rw other }
 
 pub hears-served : (w : Walk) (kind : Kind) (bytes list : List ℕ) (n : ℕ) (slot : Slot) (r : Walk) (left : List ℕ) → n ≡ refusal w (length list)
-    → n ≡ 0 → slot ≡ judged w kind bytes → After (walkAfter w slot) (listAfter w slot list) r left
+    → n ≡ 0 → slot ≡ judged w kind bytes → After (walkAfter w slot (hasPlace w)) (listAfter w slot (hasPlace w) (w .count) list) r left
     → Hears (hearing w kind bytes list) (record { walk = r; number = 0 }) left
 unfolding hearing
 hears-served w kind bytes list n slot r left is e heard after =
@@ -102,7 +112,12 @@ hears-served w kind bytes list n slot r left is e heard after =
 -- ---- what hearing comes to
 
 pub walk-heard : (w : Walk) (kind : Kind) (bytes list : List ℕ) → isAccepted w ≡ true → isRunning w ≡ true → 64 ≤ length list
-    → hearing w kind bytes list ≡ record { walk = walkAfter w (judged w kind bytes); list = listAfter w (judged w kind bytes) list; number = 0 }
+    → hearing w kind bytes list
+    ≡ record {
+      walk = walkAfter w (judged w kind bytes) (hasPlace w);
+      list = listAfter w (judged w kind bytes) (hasPlace w) (w .count) list;
+      number = 0;
+    }
 unfolding hearing refusal places
 walk-heard w kind bytes list e running h = rw (e, running, le-leb 64 (length list) h)
 

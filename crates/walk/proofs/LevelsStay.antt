@@ -12,7 +12,7 @@ use Rattle.walk.specs.declared.Slot.{Slot}
 use Rattle.walk.specs.declared.Slot.the-variants.{Silent, Clashed, Clean}
 use Rattle.walk.specs.Marks.{deepest}
 use Rattle.walk.specs.Record.{levelsOf, mostRounds, remade, ended, counted, marked, atNextSlot, openedAt, opened, noMarks, startedOf}
-use Rattle.walk.specs.Hear.{judged, endsAtOnce, noted, turned, passed, walkAfter, refusal, Hearing, hearing}
+use Rattle.walk.specs.Hear.{judged, hasPlace, endsAtOnce, noted, turned, passed, walkAfter, refusal, Hearing, hearing}
 
 pub levels-started : (levels family : ℕ) → length (startedOf levels family .marks) ≡ levels
 unfolding startedOf noMarks
@@ -46,11 +46,11 @@ pub levels-passed : (w : Walk) → length (passed w .marks) ≡ length (w .marks
 unfolding passed atNextSlot remade
 levels-passed w = by-test (ltb (w .slot) 15) _ (atNextSlot w) (turned w (deepest (w .marks))) refl (levels-turned w (deepest (w .marks)))
 
-pub levels-after : (w : Walk) (slot : Slot) → length (walkAfter w slot .marks) ≡ length (w .marks)
+pub levels-after : (w : Walk) (slot : Slot) (place : Bool) → length (walkAfter w slot place .marks) ≡ length (w .marks)
 unfolding walkAfter
-levels-after w slot =
-    by-test (eqb (endsAtOnce w slot) 0) _ (passed (noted w slot)) (ended (endsAtOnce w slot) w) (rw (levels-passed (noted w slot)) (levels-noted w slot))
-    (levels-ended (endsAtOnce w slot) w)
+levels-after w slot place =
+    by-test (eqb (endsAtOnce w slot place) 0) _ (passed (noted w slot)) (ended (endsAtOnce w slot place) w)
+    (rw (levels-passed (noted w slot)) (levels-noted w slot)) (levels-ended (endsAtOnce w slot place) w)
 
 -- by a test of a call, either way
 heard-either : (b : Bool) (n : ℕ) (x y : Hearing) → length (x .walk .marks) ≡ n → length (y .walk .marks) ≡ n → length (cond b x y .walk .marks) ≡ n
@@ -60,4 +60,4 @@ heard-either false n x y p q = q
 -- after a call, refused or not
 pub levels-heard : (w : Walk) (kind : Kind) (bytes list : List ℕ) → length (hearing w kind bytes list .walk .marks) ≡ length (w .marks)
 unfolding hearing
-levels-heard w kind bytes list = heard-either (eqb (refusal w (length list)) 0) _ _ _ (levels-after w (judged w kind bytes)) refl
+levels-heard w kind bytes list = heard-either (eqb (refusal w (length list)) 0) _ _ _ (levels-after w (judged w kind bytes) (hasPlace w)) refl

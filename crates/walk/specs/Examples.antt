@@ -10,7 +10,7 @@ use Rattle.walk.specs.declared.Kind.the-variants.{Silence}
 use Rattle.walk.specs.declared.Slot.the-variants.{Silent, Clashed, Clean}
 use Rattle.walk.specs.Marks.{levels, deepest}
 use Rattle.walk.specs.Record.{levelsOf, mostRounds, mostSlots, complete, twins, full, overrun, isAccepted, ended, counted, marked, opened, noMarks, started}
-use Rattle.walk.specs.Hear.{passed, walkAfter, Hearing, hearing}
+use Rattle.walk.specs.Hear.{hasPlace, passed, walkAfter, Hearing, hearing}
 
 -- n silent slots heard one after another, with a list
 unfoldable pub silentSlots : ℕ → Walk → List ℕ → Hearing
@@ -27,14 +27,14 @@ pub record Walks : Type 0 where
   pub empty-field : (family : ℕ) (list : List ℕ) → 64 ≤ length list
       → silentSlots 16 (started family) list ≡ record { walk = atSlot family 15 complete; list = list; number = 0 }
   -- "overrun (round 482 would be needed)": not after round 480, but after 481
-  pub round-481-opens : (w : Walk) (j : ℕ) → levelsOf w ≡ 16 → w .slot ≡ 15 → w .rounds ≡ 480 → deepest (w .marks) ≡ suc j → walkAfter w Silent ≡ opened w j
-  pub round-482-overruns : (w : Walk) (j : ℕ) → levelsOf w ≡ 16 → w .slot ≡ 15 → w .rounds ≡ 481 → deepest (w .marks) ≡ suc j → walkAfter w Silent ≡ ended overrun w
+  pub round-481-opens : (w : Walk) (j : ℕ) → levelsOf w ≡ 16 → w .slot ≡ 15 → w .rounds ≡ 480 → deepest (w .marks) ≡ suc j → walkAfter w Silent (hasPlace w) ≡ opened w j
+  pub round-482-overruns : (w : Walk) (j : ℕ) → levelsOf w ≡ 16 → w .slot ≡ 15 → w .rounds ≡ 481 → deepest (w .marks) ≡ suc j → walkAfter w Silent (hasPlace w) ≡ ended overrun w
   -- "full (a clean UID with 64 listed, at once)"
-  pub place-64-taken : (w : Walk) (uid : ℕ) → w .count ≡ 63 → walkAfter w (Clean uid) ≡ passed (counted w)
-  pub no-place-65 : (w : Walk) (uid : ℕ) → w .count ≡ 64 → walkAfter w (Clean uid) ≡ ended full w
+  pub place-64-taken : (w : Walk) (uid : ℕ) → w .count ≡ 63 → walkAfter w (Clean uid) (hasPlace w) ≡ passed (counted w)
+  pub no-place-65 : (w : Walk) (uid : ℕ) → w .count ≡ 64 → walkAfter w (Clean uid) (hasPlace w) ≡ ended full w
   -- "twins (a clash at k=15, at once)"
-  pub level-14-marked : (w : Walk) → levelsOf w ≡ 16 → w .level ≡ 14 → walkAfter w Clashed ≡ passed (marked w)
-  pub level-15-twins : (w : Walk) → levelsOf w ≡ 16 → w .level ≡ 15 → walkAfter w Clashed ≡ ended twins w
+  pub level-14-marked : (w : Walk) → levelsOf w ≡ 16 → w .level ≡ 14 → walkAfter w Clashed (hasPlace w) ≡ passed (marked w)
+  pub level-15-twins : (w : Walk) → levelsOf w ≡ 16 → w .level ≡ 15 → walkAfter w Clashed (hasPlace w) ≡ ended twins w
   -- "walk record: level or slot over 15, list count over 64, rounds 0 or over 481, mask bits above its length (4 × level), a clash mark at a level
   -- deeper than its own or at the last level"
   pub number-10 : (w : Walk) → levelsOf w ≡ 16 → isAccepted w ≡ (ltb (w .level) 16 && (leb (w .slot) 15 && (leb (w .count) 64

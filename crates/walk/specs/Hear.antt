@@ -37,22 +37,27 @@ judged w Bytes bytes = cond (isClean w bytes) (Clean (uidOf bytes)) Clashed
 
 -- ---- what a slot leaves behind
 
--- "twins (a clash at k=15, at once), full (a clean UID with 64 listed, at once)": the ending, or 0
-unfoldable pub endsAtOnce : Walk → Slot → ℕ
-endsAtOnce w Silent = running
-endsAtOnce w Clashed = cond (ltb (w .level + 1) (levelsOf w)) running twins
-endsAtOnce w (Clean uid) = cond (ltb (w .count) places) running full
+-- "full (a clean UID with 64 listed, at once)": whether there is a place for one more in the walk's own list
+unfoldable pub hasPlace : Walk → Bool
+hasPlace w = ltb (w .count) places
 
--- "Clean UIDs are listed as heard.": at the first free place
+-- "twins (a clash at k=15, at once), full (.., at once)": the ending, or 0, where there is a place for a clean UID, or none
+unfoldable pub endsAtOnce : Walk → Slot → Bool → ℕ
+endsAtOnce w Silent place = running
+endsAtOnce w Clashed place = cond (ltb (w .level + 1) (levelsOf w)) running twins
+endsAtOnce w (Clean uid) place = cond place running full
+
+-- a clash is marked and a clean UID counted
 unfoldable pub noted : Walk → Slot → Walk
 noted w Silent = w
 noted w Clashed = marked w
 noted w (Clean uid) = counted w
 
-unfoldable pub listNoted : Walk → Slot → List ℕ → List ℕ
-listNoted w Silent list = list
-listNoted w Clashed list = list
-listNoted w (Clean uid) list = set list (w .count) uid
+-- and listed at the place that is given
+unfoldable pub listNoted : Slot → ℕ → List ℕ → List ℕ
+listNoted Silent at list = list
+listNoted Clashed at list = list
+listNoted (Clean uid) at list = set list at uid
 
 -- "After slot 15 the walk opens the lowest unopened clash of the deepest level that has one"; "complete (no clash waits)",
 -- "overrun (round 482 would be needed)". The second argument is one more than that level, or 0 where no clash waits
@@ -65,11 +70,11 @@ passed w = cond (ltb (w .slot) 15) (atNextSlot w) (turned w (deepest (w .marks))
 
 -- the walk and its list after a slot: "save that a clean UID in slot 15 of the last round is listed and a clash there is marked before complete
 -- or overrun", since a slot is noted before the walk turns; at twins and full it is not
-unfoldable pub walkAfter : Walk → Slot → Walk
-walkAfter w slot = cond (eqb (endsAtOnce w slot) running) (passed (noted w slot)) (ended (endsAtOnce w slot) w)
+unfoldable pub walkAfter : Walk → Slot → Bool → Walk
+walkAfter w slot place = cond (eqb (endsAtOnce w slot place) running) (passed (noted w slot)) (ended (endsAtOnce w slot place) w)
 
-unfoldable pub listAfter : Walk → Slot → List ℕ → List ℕ
-listAfter w slot list = cond (eqb (endsAtOnce w slot) running) (listNoted w slot list) list
+unfoldable pub listAfter : Walk → Slot → Bool → ℕ → List ℕ → List ℕ
+listAfter w slot place at list = cond (eqb (endsAtOnce w slot place) running) (listNoted slot at list) list
 
 -- ---- the call
 
@@ -77,7 +82,7 @@ listAfter w slot list = cond (eqb (endsAtOnce w slot) running) (listNoted w slot
 unfoldable pub refusal : Walk → ℕ → ℕ
 refusal w room = cond (isAccepted w) (cond (isRunning w) (cond (leb places room) 0 5) 6) 10
 
--- all that hearing leaves behind; "All change nothing."
+-- all that hearing leaves behind; "All change nothing.". "Clean UIDs are listed as heard.": the next one after those that the walk counts
 pub record Hearing : Type 0 where
   pub walk : Walk
   pub list : List ℕ
@@ -87,7 +92,11 @@ unfoldable pub hearing : Walk → Kind → List ℕ → List ℕ → Hearing
 hearing w kind bytes list =
     let n : ℕ = refusal w (length list) in
     cond (eqb n 0)
-    (record { walk = walkAfter w (judged w kind bytes); list = listAfter w (judged w kind bytes) list; number = 0 })
+    (record {
+      walk = walkAfter w (judged w kind bytes) (hasPlace w);
+      list = listAfter w (judged w kind bytes) (hasPlace w) (w .count) list;
+      number = 0;
+    })
     (record { walk = w; list = list; number = n })
 
 -- what `hear` promises: what is returned, and every place of the list

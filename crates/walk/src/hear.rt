@@ -1,8 +1,9 @@
 // A slot is heard: what it brought, what the walk and its list become, and whether the walk ends.
 ghost use mathlib.Core.Path.{_≡_};
 ghost use mathlib.Core.Bool.{true};
-ghost use Prim.Native.Nat.{_<_, _≤_};
+ghost use Prim.Native.Nat.{ℕ, _<_};
 ghost use lib.ListN.{length};
+ghost use Rattle.walk.specs.declared.Slot.the-variants.{Clean};
 ghost use Rattle.walk.specs.Marks.{deepest};
 ghost use Rattle.walk.specs.Record.{isAccepted};
 ghost use Rattle.walk.specs.Hear.{uidOf, isClean, judged, endsAtOnce, noted, listNoted, passed, walkAfter, listAfter, refusal, hearing, Hears};
@@ -37,7 +38,7 @@ fn is_clean(walk: Walk, bytes: &[u8]) -> bool
     slots::fits_slot(uid_of(bytes), 4 * walk.level, walk.mask, walk.slot)
 }
 
-fn judge(walk: Walk, kind: Kind, bytes: &[u8]) -> Slot
+pub(crate) fn judge(walk: Walk, kind: Kind, bytes: &[u8]) -> Slot
     requires { ⌜ walk .level < 16 ⌝ }
     ensures { λ r. ⌜ r ≡ judged walk kind (now (bytes .entry)) ⌝ }
 {
@@ -54,29 +55,28 @@ fn judge(walk: Walk, kind: Kind, bytes: &[u8]) -> Slot
     }
 }
 
-// Twins, full, or 0 where the slot ends nothing at once.
-fn ends_at_once(walk: Walk, slot: Slot) -> u8
-    ensures { λ r. ⌜ r ≡ endsAtOnce walk slot ⌝ }
+// Twins, full, or 0 where the slot ends nothing at once. Place says whether a clean UID has one.
+fn ends_at_once(walk: Walk, slot: Slot, place: bool) -> u8
+    ensures { λ r. ⌜ r ≡ endsAtOnce walk slot place ⌝ }
 {
     match slot {
         Slot::Silent => 0,
         Slot::Clashed => if walk.level < LAST_LEVEL { 0 } else { 2 },
-        Slot::Clean(_) => if walk.count < 64 { 0 } else { 3 },
+        Slot::Clean(_) => if place { 0 } else { 3 },
     }
 }
 
-// The slot in the walk's marks or its list.
-fn note(walk: Walk, slot: Slot, list: &mut [u64]) -> Walk
+// The slot in the walk's marks, or in its count and at a place of the list.
+fn note(walk: Walk, slot: Slot, at: usize, list: &mut [u64]) -> Walk
     requires { ⌜ isAccepted walk ≡ true ⌝ }
-    requires { ⌜ endsAtOnce walk slot ≡ 0 ⌝ }
-    requires { ⌜ 64 ≤ length (now list) ⌝ }
-    ensures { λ r. ⌜ After (noted walk slot) (listNoted walk slot (now (list .entry))) r (now (list .exit)) ⌝ }
+    requires { ⌜ ((uid : ℕ) → slot ≡ Clean uid → (walk .count < 64) × (at < length (now list))) ⌝ }
+    ensures { λ r. ⌜ After (noted walk slot) (listNoted slot at (now (list .entry))) r (now (list .exit)) ⌝ }
 {
     match slot {
         Slot::Silent => walk,
         Slot::Clashed => walk.marked(),
         Slot::Clean(uid) => {
-            list[walk.count as usize] = uid;
+            list[at] = uid;
             walk.counted()
         }
     }
@@ -114,17 +114,17 @@ fn refusal(walk: Walk, room: usize) -> u8
     if room < 64 { 5 } else { 0 }
 }
 
-// The slot in a walk that hears.
-fn take(walk: Walk, slot: Slot, list: &mut [u64]) -> Walk
+// The slot in a walk that hears. Place says whether there is one for a clean UID, and at where in the list it is.
+pub(crate) fn take(walk: Walk, slot: Slot, place: bool, at: usize, list: &mut [u64]) -> Walk
     requires { ⌜ isAccepted walk ≡ true ⌝ }
-    requires { ⌜ 64 ≤ length (now list) ⌝ }
-    ensures { λ r. ⌜ After (walkAfter walk slot) (listAfter walk slot (now (list .entry))) r (now (list .exit)) ⌝ }
+    requires { ⌜ (place ≡ true → (walk .count < 64) × (at < length (now list))) ⌝ }
+    ensures { λ r. ⌜ After (walkAfter walk slot place) (listAfter walk slot place at (now (list .entry))) r (now (list .exit)) ⌝ }
 {
-    let ending = ends_at_once(walk, slot);
+    let ending = ends_at_once(walk, slot, place);
     if ending != 0 {
         return walk.ended(ending);
     }
-    pass(note(walk, slot, list))
+    pass(note(walk, slot, at, list))
 }
 
 impl Walk {
@@ -141,7 +141,7 @@ impl Walk {
         }
         let slot = judge(self, kind, bytes);
         Heard {
-            walk: take(self, slot, list),
+            walk: take(self, slot, self.count < 64, self.count as usize, list),
             number: 0,
         }
     }

@@ -6,7 +6,7 @@ use mathlib.Core.Path.{_≡_}
 use Prim.Native.Nat.{_+_}
 use lib.ListN.{length}
 use Rattle.walk.specs.Marks.{levels}
-use Rattle.walk.specs.Record.{places, levelsOf}
+use Rattle.walk.specs.Record.{levelsOf}
 use Rattle.walk.specs.Hear.{endsAtOnce}
 use Rattle.walk.proofs.hear.ends_at_once.Statement.{statement}
 use Rattle.walk.proofs.hear.ends_at_once.Tie as tie
@@ -21,7 +21,7 @@ enum-told-3 : tie.Need-enum-told-3
 enum-told-3 c = search needs
 
 returns : tie.Need-returns
-unfolding endsAtOnce places
+unfolding endsAtOnce
 returns c = rw (c .enum-told .given .1)
 
 returns-2 : tie.Need-returns-2
@@ -43,20 +43,18 @@ returns-3 c =
     rw (enum-told2 .given .1, long, le-ltb (args .walk .level + 1) levels (omega (arith, first .left)))
 
 returns-4 : tie.Need-returns-4
-unfolding endsAtOnce places
+unfolding endsAtOnce
 returns-4 c =
-    let enum-told3 = c .before .before .enum-told3 in
-    let args = c .before .before .before .before .args in
+    let enum-told3 = c .before .enum-told3 in
     let second = c .if2 in
-    rw (enum-told3 .given .1, lt-ltb (args .walk .count) 64 (omega (arith, second .taken)))
+    rw (enum-told3 .given .1, second .taken)
 
 returns-5 : tie.Need-returns-5
-unfolding endsAtOnce places
+unfolding endsAtOnce
 returns-5 c =
-    let enum-told3 = c .before .before .enum-told3 in
-    let args = c .before .before .before .before .args in
+    let enum-told3 = c .before .enum-told3 in
     let second = c .if2 in
-    rw (enum-told3 .given .1, le-ltb (args .walk .count) 64 (omega (arith, second .left)))
+    rw (enum-told3 .given .1, second .left)
 
 pub ends-at-once-spec : {M : Type 1} → statement M
 ends-at-once-spec =

@@ -3,7 +3,6 @@ use borrow.Author.Needs.{needs}
 use native.Mathlib.Omega.{arith}
 use Rattle.walk.specs.Hear.{noted, listNoted}
 use Rattle.walk.proofs.Limits.{accepted-of-is-accepted}
-use Rattle.walk.proofs.HearWays.{clean-goes-on}
 use Rattle.walk.proofs.hear.note.Statement.{statement}
 use Rattle.walk.proofs.hear.note.Tie as tie
 
@@ -22,19 +21,16 @@ marked-requires c κs =
 enum-known-slot : tie.Need-enum-known-slot
 enum-known-slot c = omega arith
 
-cast-list : tie.Need-cast-list
-cast-list c = omega arith
-
 mul-list : tie.Need-mul-list
-mul-list c = omega arith
+mul-list c =
+    let below = c .before .before .before .before .pre .1 _ (c .before .slot .given .1) .1 in
+    search (needs, below)
 
 slice-write-list : tie.Need-slice-write-list
-slice-write-list c =
-    let start = c .before .before .before .before .before in
-    omega (arith, clean-goes-on (start .args .walk) (c .before .before .slot .given .1) (start .pre .1 .0), start .pre .1 .1)
+slice-write-list c = c .before .before .before .before .pre .1 _ (c .before .slot .given .1) .1
 
 counted-requires : tie.Need-counted-requires
-counted-requires c κs = clean-goes-on (c .before .before .before .before .before .args .walk) (c .before .before .slot .given .1) (c .before .before .before .before .before .pre .1 .0)
+counted-requires c κs = c .before .before .before .before .pre .1 _ (c .before .slot .given .1) .0
 
 returns : tie.Need-returns
 unfolding noted listNoted
@@ -52,7 +48,7 @@ same-length c = search needs
 returns-3 : tie.Need-returns-3
 unfolding noted listNoted
 returns-3 c =
-    let told = c .before .before .before .slot .given .1 in
+    let told = c .before .before .slot .given .1 in
     record { walk-left = rw told (c .counted .ensures); list-left = rw told }
 
 pub note-spec : {M : Type 1} → statement M
@@ -63,7 +59,6 @@ note-spec =
     enum-told-2
     marked-requires
     enum-known-slot
-    cast-list
     mul-list
     slice-write-list
     counted-requires
