@@ -9,9 +9,9 @@ use Rattle.walk.specs.Record.{isAccepted}
 use Rattle.walk.proofs.Limits.{is-accepted-of-accepted, level-most}
 use Rattle.field.proofs.AnyReplies.{Walks}
 
-pub walks-accepted : {levels : ℕ} (w : Walk) (list : List ℕ) (t : ℕ) → w .slot < 16 → Walks levels w list t → isAccepted w ≡ true
-walks-accepted w list t h g = is-accepted-of-accepted w (g .steady .accepted)
+pub walks-accepted : {levels : ℕ} (w : Walk) (ls : List ℕ) (t : ℕ) → w .slot < 16 → Walks levels w ls t → isAccepted w ≡ true
+walks-accepted w ls t h g = is-accepted-of-accepted w (g .steady .accepted)
 
 -- "mask length over 60 (sixteen slots)": up to sixteen levels
-pub walks-level : {levels : ℕ} (w : Walk) (list : List ℕ) (t : ℕ) → levels ≤ 16 → Walks levels w list t → w .level < 16
-walks-level w list t h g = level-most (g .steady .accepted) (rw (g .marks-length) h)
+pub walks-level : {levels : ℕ} (w : Walk) (ls : List ℕ) (t : ℕ) → levels ≤ 16 → Walks levels w ls t → w .level < 16
+walks-level w ls t h g = level-most (g .steady .accepted) (rw (g .marks-length) h)

@@ -18,13 +18,14 @@ use Rattle.walk.specs.declared.Kind.{Kind}
 use Rattle.walk.specs.declared.Kind.the-variants as kind
 use Rattle.walk.specs.Marks.{levels}
 use Rattle.walk.specs.Record.{mostRounds, mostSlots, maskLength, startedOf, started}
-use Rattle.walk.specs.Hear.{uidOf, isClean, judged}
-use Rattle.walk.proofs.HearWays.{walk-heard, ended-heard}
+use Rattle.walk.specs.Hear.{uidOf, isClean, judged, hasPlace, walkAfter, listAfter}
+use Rattle.walk.proofs.HearWays.{place-below, walk-heard, ended-heard}
 use Rattle.field.specs.Field.{Arrival}
 use Rattle.field.specs.Found.{listed}
 use Rattle.field.specs.Replies.{Walked, heardIn, heardAll, HoldsIn, anyReplies}
 use Rattle.field.proofs.WaitSums.{slotTail}
 use Rattle.field.proofs.AnyReplies.{Walks, Fits, start-walks}
+use Rattle.field.proofs.OwnList.{own-places, own-lists}
 use Rattle.field.proofs.Accepted.{walks-accepted}
 use Rattle.field.proofs.Callers.{slot-tail}
 use Rattle.field.proofs.AnyStages.{Stage, hears, rests, once, after-slot}
@@ -62,57 +63,69 @@ judged-fits w kind.Silence bytes u h = not-clean (ap isCleanSlot h)
 judged-fits w kind.Clash bytes u h = not-clean (ap isCleanSlot h)
 judged-fits w kind.Bytes bytes u h = clean-of w bytes u (isClean w bytes) refl h
 
-slot-fits : {levels : ℕ} (w : Walk) (t : ℕ) (list : List ℕ) (s : Slot) → Walks levels w list t → w .slot < 16
+pub slot-fits : {levels : ℕ} (w : Walk) (t : ℕ) (ls : List ℕ) (s : Slot) → Walks levels w ls t → w .slot < 16
     → ((u : ℕ) → s ≡ Clean u → fitsSlot u (maskLength (w .level)) (w .mask) (w .slot) ≡ true) → Fits w s
 unfolding Fits
-slot-fits w t list Silent g h f = tt
-slot-fits w t list Clashed g h f = tt
-slot-fits w t list (Clean u) g h f =
+slot-fits w t ls Silent g h f = tt
+slot-fits w t ls Clashed g h f = tt
+slot-fits w t ls (Clean u) g h f =
     eqb-true (u % 16 ^ suc (w .level)) (slotTail (w .level) (w .mask) (w .slot))
     (sym (slot-tail u (w .level) (w .mask) (w .slot) (g .steady .accepted .mask) h) ∙ f u refl)
 
 -- ---- slot after slot
 
-stage-slot : {levels : ℕ} (n : ℕ) (p : Walked) (a : Arrival) → Stage levels n (p .walk) (p .list)
-    → Stage levels (suc n) (heardIn p a .walk) (heardIn p a .list)
+-- with a list of the walk's own, of 64 places
+record Stands (levels n : ℕ) (p : Walked) : Type 0 where
+  places-fit : 64 ≤ length (p .list)
+  stage : Stage levels n (p .walk) (listed (p .walk) (p .list))
+
+stands-slot : {levels : ℕ} (n : ℕ) (p : Walked) (a : Arrival) → 64 ≤ length (p .list) → Stage levels n (p .walk) (listed (p .walk) (p .list))
+    → Stands levels (suc n) (heardIn p a)
 unfolding heardIn
-stage-slot n p a (hears g h e c) =
+stands-slot n p a places (hears g h e c) =
     let w : Walk = p .walk in
     let s : Slot = judged w (a .kind) (a .bytes) in
-    let fits : Fits w s = slot-fits w (w .slot) (p .list) s g h (λ u f. judged-fits w (a .kind) (a .bytes) u f) in
-    rw (walk-heard w (a .kind) (a .bytes) (p .list) (walks-accepted w (p .list) (w .slot) h g) (running-of w e) (g .places-fit))
-    (after-slot n w (p .list) s g h e c fits)
-stage-slot n p a (rests r e o) = rw (ended-heard (p .walk) (a .kind) (a .bytes) (p .list) r e) (rests r e o)
+    let ls : List ℕ = listed w (p .list) in
+    let left : List ℕ = listAfter w s (hasPlace w) (w .count) (p .list) in
+    let fits : Fits w s = slot-fits w (w .slot) ls s g h (λ u f. judged-fits w (a .kind) (a .bytes) u f) in
+    rw (walk-heard w (a .kind) (a .bytes) (p .list) (walks-accepted w ls (w .slot) h g) (running-of w e) places)
+    (record {
+      places-fit = rw (own-places w s (hasPlace w) (w .count) (p .list)) places;
+      stage = after-slot n w ls (listed (walkAfter w s (hasPlace w)) left) s (hasPlace w) g h e c fits (place-below w) (own-lists w (p .list) s places);
+    })
+stands-slot n p a places (rests r e o k) =
+    rw (ended-heard (p .walk) (a .kind) (a .bytes) (p .list) r e) (record { places-fit = places; stage = rests r e o k })
 
-stage-all : {levels : ℕ} (arrivals : List Arrival) (n : ℕ) (p : Walked) → Stage levels n (p .walk) (p .list)
-    → Stage levels (n + length arrivals) (heardAll arrivals p .walk) (heardAll arrivals p .list)
+stands-all : {levels : ℕ} (arrivals : List Arrival) (n : ℕ) (p : Walked) → Stands levels n p → Stands levels (n + length arrivals) (heardAll arrivals p)
 unfolding heardAll
-stage-all {levels} [] n p s = subst (λ (k : ℕ). Stage levels k (p .walk) (p .list)) (omega arith) s
-stage-all {levels} (a ∷ rest) n p s =
-    subst (λ (k : ℕ). Stage levels k (heardAll rest (heardIn p a) .walk) (heardAll rest (heardIn p a) .list)) (omega arith)
-    (stage-all rest (suc n) (heardIn p a) (stage-slot n p a s))
+stands-all {levels} [] n p s = subst (λ (k : ℕ). Stands levels k p) (omega arith) s
+stands-all {levels} (a ∷ rest) n p s =
+    subst (λ (k : ℕ). Stands levels k (heardAll rest (heardIn p a))) (omega arith)
+    (stands-all rest (suc n) (heardIn p a) (stands-slot n p a (s .places-fit) (s .stage)))
 
-holds-of : (levels n : ℕ) (p : Walked) → Stage levels n (p .walk) (p .list) → HoldsIn (mostSlots levels) n p
-unfolding listed mostSlots
+holds-of : (levels n : ℕ) (p : Walked) → Stage levels n (p .walk) (listed (p .walk) (p .list)) → HoldsIn (mostSlots levels) n p
+unfolding mostSlots
 holds-of levels n p (hears g h e c) =
+    let ls : List ℕ = listed (p .walk) (p .list) in
     record {
-      accepted = walks-accepted (p .walk) (p .list) (p .walk .slot) h g;
-      once = once (p .walk) (p .list) (p .walk .slot) g;
+      accepted = walks-accepted (p .walk) ls (p .walk .slot) h g;
+      once = once (p .walk) ls (p .walk .slot) g;
       counted = λ r. c;
       ends = λ m. let most : p .walk .rounds ≤ mostRounds levels = rw (g .marks-length) at (g .steady .accepted .last-round) in absurd (omega (arith, most, c, h, m));
     }
-holds-of levels n p (rests r e o) = record { accepted = r; once = o; counted = λ r. absurd (false≢true (sym e ∙ r)); ends = λ m. e }
+holds-of levels n p (rests r e o k) = record { accepted = r; once = o; counted = λ r. absurd (false≢true (sym e ∙ r)); ends = λ m. e }
 
 -- a walk of any number of levels
 pub walk-of-any-replies-in : (levels family : ℕ) (list : List ℕ) (arrivals : List Arrival) → 1 ≤ levels → 64 ≤ length list
     → HoldsIn (mostSlots levels) (length arrivals) (heardAll arrivals (record { walk = startedOf levels family; list = list }))
-unfolding startedOf
+unfolding startedOf listed
 walk-of-any-replies-in levels family list arrivals least h =
     let fresh : Walked = record { walk = startedOf levels family; list = list } in
-    let stage : Stage levels (0 + length arrivals) (heardAll arrivals fresh .walk) (heardAll arrivals fresh .list) =
-    stage-all arrivals 0 fresh (hears (start-walks levels family list least h) (omega arith) refl (omega arith)) in
-    holds-of levels (length arrivals) (heardAll arrivals fresh)
-    (subst (λ (n : ℕ). Stage levels n (heardAll arrivals fresh .walk) (heardAll arrivals fresh .list)) (zero-add (length arrivals)) stage)
+    let start : Stands levels 0 fresh =
+    record { places-fit = h; stage = hears (start-walks levels family least) (omega arith) refl (omega arith) } in
+    let last : Stands levels (length arrivals) (heardAll arrivals fresh) =
+    subst (λ (n : ℕ). Stands levels n (heardAll arrivals fresh)) (zero-add (length arrivals)) (stands-all arrivals 0 fresh start) in
+    holds-of levels (length arrivals) (heardAll arrivals fresh) (last .stage)
 
 pub walk-of-any-replies : anyReplies
 unfolding anyReplies started levels mostSlots mostRounds

@@ -49,9 +49,9 @@ locks-of family level mask s (t₀ ∷ ts₀) (t ∷ ts) (row.more h b) =
 
 -- ---- what the verdict means
 
-verdict-found : (levels : ℕ) (us : List ℕ) (w : Walk) (list : List ℕ) → isRunning w ≡ false → Verdict levels us w list
+verdict-found : (levels : ℕ) (us : List ℕ) (w : Walk) (list : List ℕ) → isRunning w ≡ false → Verdict levels 64 us w (listed w list)
     → FoundIn (levels - 1) us w list
-unfolding Different listed times
+unfolding Different times
 verdict-found levels us w list end (completes e few number same once rounds) =
     let different : (u : ℕ) → times u us ≤ 1 = λ u. rw (← same (λ x. one (eqb x u))) (once u) in
     record {
@@ -111,10 +111,10 @@ found-rounds us w list found e = found .rounds e
 ends : (levels family : ℕ) (tags : List Tag) (us : List ℕ) (n : ℕ) (p : Play) → mostSlots levels ≤ n → Stage levels family tags us n p
     → Demand3In (levels - 1) family tags us p
 unfolding mostSlots
-ends levels family tags us n p h (hears g s e f room count b) =
+ends levels family tags us n p h (hears places g s e f room count b) =
     let most : p .walk .rounds ≤ mostRounds levels = rw (g .walks .marks-length) at (g .walks .steady .accepted .last-round) in
     absurd (omega (arith, most, count, s, h))
-ends levels family tags us n p h (rests a r v b) =
+ends levels family tags us n p h (rests places a r v b) =
     record {
       found = verdict-found levels us (p .walk) (p .list) r v;
       cards-left = cards-of family (p .walk) tags (p .tags) b;

@@ -10,7 +10,7 @@ use Rattle.tails.specs.Tails.{ending}
 use Rattle.walk.specs.declared.Walk.{Walk}
 use Rattle.walk.specs.Marks.{levels, waits, withMark, withoutMark, lowestFrom, lowest, deepestOf, deepest}
 use Rattle.walk.specs.Record.{places, levelsOf, mostRounds, maskLength, isRunning, remade, ended, counted, marked, atNextSlot, openedMask, openedAt, opened, noMarks, startedOf, started}
-use Rattle.walk.specs.Hear.{endsAtOnce, noted, listNoted, turned, passed, walkAfter, listAfter}
+use Rattle.walk.specs.Hear.{hasPlace, endsAtOnce, noted, listNoted, turned, passed, walkAfter, listAfter}
 use Rattle.play.specs.Life.{Tag}
 use Rattle.field.specs.Field.{answering}
 use Rattle.field.specs.Played.{playedFor, fresh}
@@ -25,7 +25,7 @@ use Rattle.field.proofs.Stood.{Stand, stood, stoodFor, stood-more, stoo
 three-stood : (family a b c : ℕ) (list : List ℕ)
     → stoodFor three 32 (record { walk = started family; list = a ∷ b ∷ c ∷ list })
     ≡ record { walk = threeEnd family; list = 0xe004010000000005 ∷ 0xe004010000000011 ∷ 0xe004010000000021 ∷ list }
-unfolding stoodFor stood isRunning started startedOf noMarks walkAfter listAfter endsAtOnce noted listNoted passed turned ended counted marked atNextSlot opened openedAt remade openedMask maskLength withMark withoutMark waits lowest lowestFrom deepest deepestOf levels levelsOf places mostRounds called ending slotOf
+unfolding stoodFor stood isRunning started startedOf noMarks walkAfter listAfter hasPlace endsAtOnce noted listNoted passed turned ended counted marked atNextSlot opened openedAt remade openedMask maskLength withMark withoutMark waits lowest lowestFrom deepest deepestOf levels levelsOf places mostRounds called ending slotOf
 three-stood family a b c list = refl
 
 -- the list has the three at its start

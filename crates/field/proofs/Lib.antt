@@ -9,6 +9,7 @@ pub mod Weights
 pub mod Opened
 pub mod NoOverrun
 pub mod AnyReplies
+pub mod OwnList
 pub mod Accepted
 pub mod Called
 pub mod Shared

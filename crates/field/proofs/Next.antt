@@ -3,7 +3,7 @@
 use mathlib.Core.Path.{_≡_, refl}
 use Prim.Native.Nat.{ℕ, suc, _+_, _-_, _≤_, _<_}
 use mathlib.Core.List.{List}
-use lib.ListN.{length, take}
+use lib.ListN.{length}
 use Rattle.tails.specs.Sum.{tally, times}
 use Rattle.tails.specs.Tails.{sharedTailsTo}
 use Rattle.tails.proofs.Apart.{ToldApart}
@@ -19,12 +19,12 @@ pub record Suits (levels : ℕ) (us : List ℕ) : Type 0 where
   pub most : levels ≤ 16
   pub apart : ToldApart levels us
 
--- what an ended walk of so many levels says of the UIDs us
-pub data Verdict (levels : ℕ) (us : List ℕ) (w : Walk) (list : List ℕ) : Type 0 where
-  completes : w .ending ≡ complete → w .count ≤ 64 → w .count ≡ length us → ((v : ℕ → ℕ) → tally v (take (w .count) list) ≡ tally v us)
-      → ((u : ℕ) → times u (take (w .count) list) ≤ 1) → w .rounds ≡ 1 + sharedTailsTo (levels - 1) us → Verdict levels us w list
-  twin : w .ending ≡ twins → (u : ℕ) → 2 ≤ times u us → Verdict levels us w list
-  fills : w .ending ≡ full → 64 < length us → Verdict levels us w list
+-- what an ended walk of so many levels says of the UIDs us, ls being listed. Fewest: the fewest UIDs listed with which a clean one may find no place
+pub data Verdict (levels fewest : ℕ) (us : List ℕ) (w : Walk) (ls : List ℕ) : Type 0 where
+  completes : w .ending ≡ complete → w .count ≤ 64 → w .count ≡ length us → ((v : ℕ → ℕ) → tally v ls ≡ tally v us) → ((u : ℕ) → times u ls ≤ 1)
+      → w .rounds ≡ 1 + sharedTailsTo (levels - 1) us → Verdict levels fewest us w ls
+  twin : w .ending ≡ twins → (u : ℕ) → 2 ≤ times u us → Verdict levels fewest us w ls
+  fills : w .ending ≡ full → fewest < length us → Verdict levels fewest us w ls
 
 -- level, mask, slot, family and rounds stay
 pub record Kept (w w' : Walk) : Type 0 where
@@ -34,13 +34,14 @@ pub record Kept (w w' : Walk) : Type 0 where
   pub family : w' .family ≡ w .family
   pub rounds : w' .rounds ≡ w .rounds
 
--- the walk w' that a slot leaves of w
-pub data Next (levels : ℕ) (us : List ℕ) (w w' : Walk) (list' : List ℕ) : Type 0 where
-  moves : Fixed levels us w' list' (suc (w .slot)) → w .slot < 15 → w' .level ≡ w .level → w' .mask ≡ w .mask → w' .slot ≡ suc (w .slot)
-      → w' .family ≡ w .family → w' .ending ≡ w .ending → w' .rounds ≡ w .rounds → Next levels us w w' list'
-  opens : Fixed levels us w' list' 0 → w .slot ≡ 15 → w' .slot ≡ 0 → w' .family ≡ w .family → w' .ending ≡ w .ending → w' .rounds ≡ suc (w .rounds)
-      → Next levels us w w' list'
-  stops : {x : Walk} {t : ℕ} → Fixed levels us x list' t → Kept w x → (e : ℕ) → w' ≡ ended (suc e) x → Verdict levels us w' list' → Next levels us w w' list'
+-- the walk w' that a slot leaves of w, with the UIDs ls' listed
+pub data Next (levels fewest : ℕ) (us : List ℕ) (w w' : Walk) (ls' : List ℕ) : Type 0 where
+  moves : Fixed levels us w' ls' (suc (w .slot)) → w .slot < 15 → w' .level ≡ w .level → w' .mask ≡ w .mask → w' .slot ≡ suc (w .slot)
+      → w' .family ≡ w .family → w' .ending ≡ w .ending → w' .rounds ≡ w .rounds → Next levels fewest us w w' ls'
+  opens : Fixed levels us w' ls' 0 → w .slot ≡ 15 → w' .slot ≡ 0 → w' .family ≡ w .family → w' .ending ≡ w .ending → w' .rounds ≡ suc (w .rounds)
+      → Next levels fewest us w w' ls'
+  stops : {x : Walk} {t : ℕ} → Fixed levels us x ls' t → Kept w x → (e : ℕ) → w' ≡ ended (suc e) x → Verdict levels fewest us w' ls'
+      → Next levels fewest us w w' ls'
 
 pub kept : (w : Walk) → Kept w w
 kept w = record { level = refl; mask = refl; slot = refl; family = refl; rounds = refl }

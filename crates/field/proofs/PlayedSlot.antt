@@ -9,12 +9,12 @@ use lib.ListN.{length}
 use Rattle.walk.specs.declared.Walk.{Walk}
 use Rattle.walk.specs.declared.Slot.{Slot}
 use Rattle.walk.specs.Record.{maskLength, isAccepted, isRunning}
-use Rattle.walk.specs.Hear.{judged, walkAfter, listAfter}
-use Rattle.walk.specs.Ask.{sent, roomAfter}
+use Rattle.walk.specs.Hear.{judged, hasPlace, walkAfter, listAfter}
+use Rattle.walk.specs.Ask.{sent, roomAfter, Asking, asking}
 use Rattle.walk.proofs.HearWays.{walk-heard, ended-heard}
 use Rattle.walk.proofs.Limits.{Accepted, accepted-of-is-accepted}
 use Rattle.play.specs.Life.{Tag}
-use Rattle.field.specs.Field.{answering, replies, Arrival, arrives}
+use Rattle.field.specs.Field.{answering, tagsAfter, replies, Arrival, arrives}
 use Rattle.field.specs.Played.{Play, slotPlayedBy, slotPlayed}
 use Rattle.field.specs.Demand.{AllObey}
 use Rattle.field.specs.Demand as demand
@@ -22,7 +22,7 @@ use Rattle.field.proofs.Called.{called, slotOf}
 use Rattle.field.proofs.InTime.{AtSlot, Follows, Both, none, more, Before}
 use Rattle.field.proofs.InStep.{slot-follows, self-follows}
 use Rattle.field.proofs.Callers.{called-callers, callers-fit, callers-judged, callers, messages}
-use Rattle.field.proofs.RowHeard.{Hears, row-at, row-replies, both-map}
+use Rattle.field.proofs.RowHeard.{row-at, row-replies, both-map}
 use Rattle.field.proofs.RowAsked.{walk-asked, row-hears}
 use Rattle.field.proofs.WalkServed.{room-left, ended-asked, nothing-reached}
 
@@ -33,49 +33,61 @@ Brings air us family tags₀ =
     → let heard : Arrival = air (messages (callers family w tags₀)) in
     judged w (heard .kind) (heard .bytes) ≡ slotOf (called us w)
 
+-- a slot of a walk that hears, before it is heard: what is judged of what arrives, the room, and the cards
+pub record Arrived (air : List (List ℕ) → Arrival) (us : List ℕ) (family : ℕ) (tags₀ : List Tag) (w : Walk) (room₀ : List ℕ) (ts : List Tag) : Type 0 where
+  pub heard : let a : Asking = asking w room₀ in
+      let h : Arrival = air (replies (a .send) (a .room) ts) in
+      judged w (h .kind) (h .bytes) ≡ slotOf (called us w)
+  pub room : length (asking w room₀ .room) ≡ length room₀
+  pub tags : Both (AtSlot family (w .level) (w .mask) (w .slot)) tags₀ (tagsAfter (asking w room₀ .send) (asking w room₀ .room) ts)
+
+-- and when it is heard, with a list of the walk's own
 pub record SlotPlayedOf (us : List ℕ) (family : ℕ) (tags₀ : List Tag) (p q : Play) : Type 0 where
-  pub walk : q .walk ≡ walkAfter (p .walk) (slotOf (called us (p .walk)))
-  pub list : q .list ≡ listAfter (p .walk) (slotOf (called us (p .walk))) (p .list)
+  pub walk : q .walk ≡ walkAfter (p .walk) (slotOf (called us (p .walk))) (hasPlace (p .walk))
+  pub list : q .list ≡ listAfter (p .walk) (slotOf (called us (p .walk))) (hasPlace (p .walk)) (p .walk .count) (p .list)
   pub room : length (q .room) ≡ length (p .room)
   pub tags : Both (AtSlot family (p .walk .level) (p .walk .mask) (p .walk .slot)) tags₀ (q .tags)
 
 module _ (air : List (List ℕ) → Arrival) (us : List ℕ) where
+  -- by the walk's own family
+  own-arrives : (tags₀ : List Tag) (w : Walk) (room : List ℕ) (ts : List Tag) → AllObey tags₀ → Brings air us (w .family) tags₀ → isAccepted w ≡ true
+      → w .level < 16 → isRunning w ≡ true → 14 ≤ length room → Before (w .family) (w .level) (w .mask) (w .slot) tags₀ ts
+      → Arrived air us (w .family) tags₀ w room ts
+  own-arrives tags₀ w room ts obey brings accepted level running fits before =
+      let within : Accepted w = accepted-of-is-accepted w accepted in
+      let hears = row-hears w tags₀ ts room obey within level running before in
+      let asked = walk-asked w room accepted fits in
+      record {
+        heard = rw (asked, row-replies (w .family) w (sent w) (roomAfter w (sent w) room) tags₀ ts hears) (brings w refl within);
+        room = rw asked (room-left w (sent w) room level fits);
+        tags = rw asked (row-at (w .family) w (sent w) (roomAfter w (sent w) room) tags₀ ts obey hears);
+      }
+
   -- what arrives is judged to be what the UIDs bring
-  slot-heard : (ts₀ ts : List Tag) (w : Walk) (room : List ℕ) → Brings air us (w .family) ts₀ → Accepted w
-      → Both (Hears (w .family) w (sent w) (roomAfter w (sent w) room)) ts₀ ts
-      → judged w (air (replies (sent w) (roomAfter w (sent w) room) ts) .kind) (air (replies (sent w) (roomAfter w (sent w) room) ts) .bytes)
-      ≡ slotOf (called us w)
-  slot-heard ts₀ ts w room brings fits hears =
-      rw (row-replies (w .family) w (sent w) (roomAfter w (sent w) room) ts₀ ts hears) (brings w refl fits)
+  pub slot-arrives : (family : ℕ) (tags₀ : List Tag) (w : Walk) (room : List ℕ) (ts : List Tag) → AllObey tags₀ → Brings air us family tags₀
+      → isAccepted w ≡ true → w .level < 16 → isRunning w ≡ true → w .family ≡ family → 14 ≤ length room
+      → Before family (w .level) (w .mask) (w .slot) tags₀ ts → Arrived air us family tags₀ w room ts
+  slot-arrives family tags₀ w room ts obey brings accepted level running same fits before =
+      subst (λ (f : ℕ). Arrived air us f tags₀ w room ts) same
+      (own-arrives tags₀ w room ts obey (subst⁻¹ (λ (f : ℕ). Brings air us f tags₀) same brings) accepted level running fits
+      (subst⁻¹ (λ (f : ℕ). Before f (w .level) (w .mask) (w .slot) tags₀ ts) same before))
 
-  -- a slot of a walk that hears, by its own family
-  own-played : (tags₀ : List Tag) (p : Play) → AllObey tags₀ → Brings air us (p .walk .family) tags₀ → isAccepted (p .walk) ≡ true
-      → p .walk .level < 16 → isRunning (p .walk) ≡ true → 64 ≤ length (p .list) → 14 ≤ length (p .room)
-      → Before (p .walk .family) (p .walk .level) (p .walk .mask) (p .walk .slot) tags₀ (p .tags)
-      → SlotPlayedOf us (p .walk .family) tags₀ p (slotPlayedBy air p)
-  unfolding slotPlayedBy
-  own-played tags₀ p obey brings accepted level running places room before =
-      let w : Walk = p .walk in
-      let fits : Accepted w = accepted-of-is-accepted w accepted in
-      let hears = row-hears w tags₀ (p .tags) (p .room) obey fits level running before in
-      let rs : List (List ℕ) = replies (sent w) (roomAfter w (sent w) (p .room)) (p .tags) in
-      let heard = slot-heard tags₀ (p .tags) w (p .room) brings fits hears in
-      rw (walk-asked w (p .room) accepted room, walk-heard w (air rs .kind) (air rs .bytes) (p .list) accepted running places)
-      (record {
-        walk = ap (walkAfter w) heard;
-        list = ap (λ (slot : Slot). listAfter w slot (p .list)) heard;
-        room = room-left w (sent w) (p .room) level room;
-        tags = row-at (w .family) w (sent w) (roomAfter w (sent w) (p .room)) tags₀ (p .tags) obey hears;
-      })
-
-  -- a slot of a walk that hears
   pub slot-played-by : (family : ℕ) (tags₀ : List Tag) (p : Play) → AllObey tags₀ → Brings air us family tags₀ → isAccepted (p .walk) ≡ true
       → p .walk .level < 16 → isRunning (p .walk) ≡ true → p .walk .family ≡ family → 64 ≤ length (p .list) → 14 ≤ length (p .room)
       → Before family (p .walk .level) (p .walk .mask) (p .walk .slot) tags₀ (p .tags) → SlotPlayedOf us family tags₀ p (slotPlayedBy air p)
-  slot-played-by family tags₀ p obey brings accepted level running same places room before =
-      subst (λ (f : ℕ). SlotPlayedOf us f tags₀ p (slotPlayedBy air p)) same
-      (own-played tags₀ p obey (subst⁻¹ (λ (f : ℕ). Brings air us f tags₀) same brings) accepted level running places room
-      (subst⁻¹ (λ (f : ℕ). Before f (p .walk .level) (p .walk .mask) (p .walk .slot) tags₀ (p .tags)) same before))
+  unfolding slotPlayedBy
+  slot-played-by family tags₀ p obey brings accepted level running same places fits before =
+      let w : Walk = p .walk in
+      let a : Asking = asking w (p .room) in
+      let arrived = slot-arrives family tags₀ w (p .room) (p .tags) obey brings accepted level running same fits before in
+      let h : Arrival = air (replies (a .send) (a .room) (p .tags)) in
+      rw (walk-heard w (h .kind) (h .bytes) (p .list) accepted running places)
+      (record {
+        walk = ap (λ (slot : Slot). walkAfter w slot (hasPlace w)) (arrived .heard);
+        list = ap (λ (slot : Slot). listAfter w slot (hasPlace w) (w .count) (p .list)) (arrived .heard);
+        room = arrived .room;
+        tags = arrived .tags;
+      })
 
 -- an ended walk hears no more, and sends nothing
 pub ended-played-by : (air : List (List ℕ) → Arrival) (p : Play) → isAccepted (p .walk) ≡ true → isRunning (p .walk) ≡ false → slotPlayedBy air p ≡ p

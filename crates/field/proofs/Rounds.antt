@@ -9,6 +9,7 @@ use Rattle.walk.specs.Record.{isRunning, remade, ended}
 use Rattle.play.specs.Life.{Tag}
 use Rattle.field.specs.Field.{answering}
 use Rattle.field.specs.Played.{Play, slotPlayed, playedForBy, playedFor, fresh}
+use Rattle.field.specs.Found.{listed}
 use Rattle.field.specs.Demand.{AllObey, roundsCounted, roundsKept}
 use Rattle.field.proofs.Accepted.{walks-accepted, walks-level}
 use Rattle.field.proofs.Next.{Suits, Next, moves, opens, stops}
@@ -21,8 +22,8 @@ use Rattle.field.proofs.Demand3.{stage-after}
 
 runs-counted : {levels : ℕ} (family : ℕ) (tags : List Tag) (us : List ℕ) (n : ℕ) (p : Play) → Stage levels family tags us n p → isRunning (p .walk) ≡ true
     → 16 * p .walk .rounds + p .walk .slot ≡ 16 + n
-runs-counted family tags us n p (hears g s e f room count b) running = count
-runs-counted family tags us n p (rests a r v b) running = absurd (false≢true (sym r ∙ running))
+runs-counted family tags us n p (hears places g s e f room count b) running = count
+runs-counted family tags us n p (rests places a r v b) running = absurd (false≢true (sym r ∙ running))
 
 pub rounds-of-a-field : roundsCounted
 unfolding roundsCounted
@@ -32,21 +33,24 @@ rounds-of-a-field family tags list room obey places fits n =
 
 -- ---- at the end
 
-ended-rounds : {levels : ℕ} (us : List ℕ) (w w' : Walk) (list : List ℕ) → w .ending ≡ 0 → Next levels us w w' list → isRunning w' ≡ false → w' .rounds ≡ w .rounds
+ended-rounds : {levels fewest : ℕ} (us : List ℕ) (w w' : Walk) (ls' : List ℕ) → w .ending ≡ 0 → Next levels fewest us w w' ls' → isRunning w' ≡ false
+    → w' .rounds ≡ w .rounds
 unfolding ended remade
-ended-rounds us w w' list e (moves g s l m t y z r) end = absurd (false≢true (sym end ∙ running-of w' (z ∙ e)))
-ended-rounds us w w' list e (opens g s t y z r) end = absurd (false≢true (sym end ∙ running-of w' (z ∙ e)))
-ended-rounds us w w' list e (stops g k d same v) end = ap (λ (x : Walk). x .rounds) same ∙ k .rounds
+ended-rounds us w w' ls' e (moves g s l m t y z r) end = absurd (false≢true (sym end ∙ running-of w' (z ∙ e)))
+ended-rounds us w w' ls' e (opens g s t y z r) end = absurd (false≢true (sym end ∙ running-of w' (z ∙ e)))
+ended-rounds us w w' ls' e (stops g k d same v) end = ap (λ (x : Walk). x .rounds) same ∙ k .rounds
 
 slot-rounds : {levels : ℕ} (family : ℕ) (tags : List Tag) (n : ℕ) (p : Play) → AllObey tags → Suits levels (answering family tags)
     → Stage levels family tags (answering family tags) n p → isRunning (slotPlayed p .walk) ≡ false → slotPlayed p .walk .rounds ≡ p .walk .rounds
-slot-rounds family tags n p obey fit (hears g h e f room count row) end =
+slot-rounds family tags n p obey fit (hears places g h e f room count row) end =
     let w : Walk = p .walk in
-    let played : SlotPlayed family tags p (slotPlayed p) =
-    slot-played family tags p obey (walks-accepted w (p .list) (w .slot) h (g .walks))
-    (walks-level w (p .list) (w .slot) (fit .most) (g .walks)) (running-of w e) f (g .walks .places-fit) room row in
-    ended-rounds (answering family tags) w (slotPlayed p .walk) (slotPlayed p .list) e (slot-leaves family tags p fit g h played) end
-slot-rounds family tags n p obey fit (rests a r v row) end = ap (λ (q : Play). q .walk .rounds) (ended-played p a r)
+    let q : Play = slotPlayed p in
+    let ls : List ℕ = listed w (p .list) in
+    let played : SlotPlayed family tags p q =
+    slot-played family tags p obey (walks-accepted w ls (w .slot) h (g .walks)) (walks-level w ls (w .slot) (fit .most) (g .walks)) (running-of w e) f places
+    room row in
+    ended-rounds (answering family tags) w (q .walk) (listed (q .walk) (q .list)) e (slot-leaves family tags p fit places g h played) end
+slot-rounds family tags n p obey fit (rests places a r v row) end = ap (λ (q : Play). q .walk .rounds) (ended-played p a r)
 
 -- a slot more is played last
 played-last : (n : ℕ) (p : Play) → playedFor (suc n) p ≡ slotPlayed (playedFor n p)

@@ -1,6 +1,7 @@
 -- What holds of a walk from its start on, whatever it hears: number 10 accepts it, and no slot waits that is still to be heard.
 -- By the ways in which a slot changes the walk. Assumes nothing.
 use mathlib.Core.Path.{_≡_, _∙_}
+use mathlib.Core.Bool.{Bool, true}
 use Prim.Native.Nat.{ℕ, suc, _+_, _^_, _≤_, _<_}
 use native.Mathlib.Omega.{arith}
 use lib.ListN.{length, getD}
@@ -40,26 +41,28 @@ start-steady levels family h =
 
 -- ---- a slot that ends nothing at once: silent, clean, or a clash that is marked
 
-pub noted-steady : (w : Walk) (slot : Slot) → w .slot < 16 → endsAtOnce w slot ≡ 0 → Steady w (w .slot) → Steady (noted w slot) (suc (w .slot))
+-- where a place for a clean UID is one of 64
+pub noted-steady : (w : Walk) (slot : Slot) (place : Bool) → (place ≡ true → w .count < 64) → w .slot < 16 → endsAtOnce w slot place ≡ 0
+    → Steady w (w .slot) → Steady (noted w slot) (suc (w .slot))
 unfolding noted counted marked remade
-noted-steady w Silent a e h =
+noted-steady w Silent place few a e h =
     record {
       accepted = h .accepted;
       marks-fit = h .marks-fit;
       none-ahead = λ s p q. h .none-ahead s (omega arith) q;
     }
-noted-steady w Clashed a e h =
+noted-steady w Clashed place few a e h =
     let level : ℕ = w .level in
     let new : ℕ = withMark (getD (w .marks) level 0) (w .slot) in
     let within : level < length (w .marks) = h .accepted .level in
     record {
-      accepted = noted-facts w (h .accepted) Clashed e;
+      accepted = noted-facts w (h .accepted) place few Clashed e;
       marks-fit = set-fits (w .marks) level new within (mark-fits (getD (w .marks) level 0) (w .slot) (h .marks-fit level) a) (h .marks-fit);
       none-ahead = λ s p q. wait-marked-slot (w .marks) level (w .slot) s within (λ e. absurd (omega arith)) ∙ h .none-ahead s (omega arith) q;
     }
-noted-steady w (Clean u) a e h =
+noted-steady w (Clean u) place few a e h =
     record {
-      accepted = noted-facts w (h .accepted) (Clean u) e;
+      accepted = noted-facts w (h .accepted) place few (Clean u) e;
       marks-fit = h .marks-fit;
       none-ahead = λ s p q. h .none-ahead s (omega arith) q;
     }

@@ -7,10 +7,11 @@ use native.Mathlib.Nat.{zero-add, suc-add}
 use mathlib.Core.List.{List}
 use Rattle.walk.specs.declared.Walk.{Walk}
 use Rattle.walk.specs.Record.{isRunning}
-use Rattle.walk.specs.Hear.{walkAfter, listAfter}
+use Rattle.walk.specs.Hear.{hasPlace, walkAfter, listAfter}
 use Rattle.play.specs.Life.{Tag}
 use Rattle.field.specs.Field.{answering}
 use Rattle.field.specs.Played.{Play, slotPlayed, playedForBy, playedFor}
+use Rattle.field.specs.Found.{listed}
 use Rattle.field.specs.Demand.{AllObey}
 use Rattle.field.proofs.Called.{called, slotOf}
 use Rattle.field.proofs.Accepted.{walks-accepted, walks-level}
@@ -28,8 +29,8 @@ unfoldable pub stood : List ℕ → Stand → Stand
 stood us s =
     cond (isRunning (s .walk))
     (record {
-      walk = walkAfter (s .walk) (slotOf (called us (s .walk)));
-      list = listAfter (s .walk) (slotOf (called us (s .walk))) (s .list);
+      walk = walkAfter (s .walk) (slotOf (called us (s .walk))) (hasPlace (s .walk));
+      list = listAfter (s .walk) (slotOf (called us (s .walk))) (hasPlace (s .walk)) (s .walk .count) (s .list);
     })
     s
 
@@ -53,12 +54,13 @@ standOf p = record { walk = p .walk; list = p .list }
 slot-stood : {levels : ℕ} (family : ℕ) (tags : List Tag) (n : ℕ) (p : Play) → AllObey tags → levels ≤ 16 → Stage levels family tags (answering family tags) n p
     → standOf (slotPlayed p) ≡ stood (answering family tags) (standOf p)
 unfolding stood
-slot-stood family tags n p obey most (hears g h e f room count row) =
+slot-stood family tags n p obey most (hears places g h e f room count row) =
+    let w : Walk = p .walk in
+    let ls : List ℕ = listed w (p .list) in
     let played : SlotPlayed family tags p (slotPlayed p) =
-    slot-played family tags p obey (walks-accepted (p .walk) (p .list) (p .walk .slot) h (g .walks))
-    (walks-level (p .walk) (p .list) (p .walk .slot) most (g .walks)) (running-of (p .walk) e) f (g .walks .places-fit) room row in
-    rw (running-of (p .walk) e) (λ i. record { walk = played .walk i; list = played .list i })
-slot-stood family tags n p obey most (rests a r v row) = rw (r, ended-played p a r)
+    slot-played family tags p obey (walks-accepted w ls (w .slot) h (g .walks)) (walks-level w ls (w .slot) most (g .walks)) (running-of w e) f places room row in
+    rw (running-of w e) (λ i. record { walk = played .walk i; list = played .list i })
+slot-stood family tags n p obey most (rests places a r v row) = rw (r, ended-played p a r)
 
 pub played-stood : {levels : ℕ} (family : ℕ) (tags : List Tag) (n m : ℕ) (p : Play) → AllObey tags → Suits levels (answering family tags)
     → Stage levels family tags (answering family tags) m p → standOf (playedFor n p) ≡ stoodFor (answering family tags) n (standOf p)
