@@ -19,13 +19,13 @@ use Rattle.walk.specs.declared.Kind.the-variants as kind
 use Rattle.walk.specs.Marks.{levels}
 use Rattle.walk.specs.Record.{mostRounds, mostSlots, maskLength, startedOf, started}
 use Rattle.walk.specs.Hear.{uidOf, isClean, judged, hasPlace, walkAfter, listAfter}
-use Rattle.walk.proofs.HearWays.{place-below, walk-heard, ended-heard}
+use Rattle.walk.proofs.HearWays.{place-below, places-after, walk-heard, ended-heard}
 use Rattle.field.specs.Field.{Arrival}
 use Rattle.field.specs.Found.{listed}
 use Rattle.field.specs.Replies.{Walked, heardIn, heardAll, HoldsIn, anyReplies}
 use Rattle.field.proofs.WaitSums.{slotTail}
 use Rattle.field.proofs.AnyReplies.{Walks, Fits, start-walks}
-use Rattle.field.proofs.OwnList.{own-places, own-lists}
+use Rattle.field.proofs.OwnList.{own-lists}
 use Rattle.field.proofs.Accepted.{walks-accepted}
 use Rattle.field.proofs.Callers.{slot-tail}
 use Rattle.field.proofs.AnyStages.{Stage, hears, rests, once, after-slot}
@@ -90,7 +90,7 @@ stands-slot n p a places (hears g h e c) =
     let fits : Fits w s = slot-fits w (w .slot) ls s g h (λ u f. judged-fits w (a .kind) (a .bytes) u f) in
     rw (walk-heard w (a .kind) (a .bytes) (p .list) (walks-accepted w ls (w .slot) h g) (running-of w e) places)
     (record {
-      places-fit = rw (own-places w s (hasPlace w) (w .count) (p .list)) places;
+      places-fit = rw (places-after w s (hasPlace w) (w .count) (p .list)) places;
       stage = after-slot n w ls (listed (walkAfter w s (hasPlace w)) left) s (hasPlace w) g h e c fits (place-below w) (own-lists w (p .list) s places);
     })
 stands-slot n p a places (rests r e o k) =

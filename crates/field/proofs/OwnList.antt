@@ -1,12 +1,12 @@
--- A list of the walk's own: what hearing leaves of it lists what the slot adds, after those that the walk counts, and it keeps its places.
--- By the tests of hearing. Assumes nothing.
+-- A list of the walk's own: what hearing leaves of it lists what the slot adds, after those that the walk counted. By the tests of hearing.
+-- Assumes nothing.
 use mathlib.Core.Path.{_≡_, refl}
 use mathlib.Core.Bool.{Bool, true, false, cond}
 use Prim.Native.Nat.{ℕ, zero, suc, _+_, _≤_, _<_}
 use native.Mathlib.Numerals.{add-one}
 use native.Mathlib.Omega.{arith}
 use mathlib.Core.List.{List, [], _∷_, _++_}
-use borrow.Author.Tests.{ltb-false, eqb-true, eqb-false}
+use borrow.Author.Tests.{eqb-true, eqb-false}
 use lib.Dec.{ltb, eqb}
 use lib.ListN.{length, take, set, length-set}
 use lib.Seq.{take-suc, take-set-le, getD-set-same}
@@ -16,32 +16,11 @@ use Rattle.walk.specs.declared.Walk.{Walk}
 use Rattle.walk.specs.declared.Slot.{Slot}
 use Rattle.walk.specs.declared.Slot.the-variants.{Silent, Clashed, Clean}
 use Rattle.walk.specs.Marks.{deepest}
-use Rattle.walk.specs.Record.{places, levelsOf, mostRounds, remade, ended, counted, marked, atNextSlot, openedAt, opened}
+use Rattle.walk.specs.Record.{levelsOf, mostRounds, remade, ended, counted, marked, atNextSlot, openedAt, opened}
 use Rattle.walk.specs.Hear.{hasPlace, endsAtOnce, noted, listNoted, turned, passed, walkAfter, listAfter}
 use Rattle.walk.proofs.HearWays.{clean-goes-on, place-below}
 use Rattle.field.specs.Found.{listed}
 use Rattle.field.proofs.AnyReplies.{added, Lists, clean-added, ending-added}
-
--- no place is left only where 64 are counted
-pub place-none : (w : Walk) → hasPlace w ≡ false → 64 ≤ w .count
-unfolding hasPlace places
-place-none w e = ltb-false (w .count) 64 e
-
--- ---- the places of the list
-
-noted-places : (slot : Slot) (at : ℕ) (list : List ℕ) → length (listNoted slot at list) ≡ length list
-unfolding listNoted
-noted-places Silent at list = refl
-noted-places Clashed at list = refl
-noted-places (Clean x) at list = length-set list at x
-
-pub own-places : (w : Walk) (slot : Slot) (place : Bool) (at : ℕ) (list : List ℕ) → length (listAfter w slot place at list) ≡ length list
-unfolding listAfter
-own-places w slot place at list = go (eqb (endsAtOnce w slot place) 0)
-  where
-    go : (b : Bool) → length (cond b (listNoted slot at list) list) ≡ length list
-    go true = noted-places slot at list
-    go false = refl
 
 -- ---- the count
 

@@ -12,7 +12,7 @@ use Rattle.walk.specs.declared.Slot.{Slot}
 use Rattle.walk.specs.Marks.{levels}
 use Rattle.walk.specs.Record.{isRunning, isAccepted, startedOf, started, ended, remade}
 use Rattle.walk.specs.Hear.{hasPlace, walkAfter, listAfter}
-use Rattle.walk.proofs.HearWays.{place-below}
+use Rattle.walk.proofs.HearWays.{place-below, place-none, places-after}
 use Rattle.walk.proofs.Limits.{is-accepted-of-accepted}
 use Rattle.walk.proofs.Accepted.{ended-facts}
 use Rattle.play.specs.Life.{Tag}
@@ -21,7 +21,7 @@ use Rattle.field.specs.Played.{Play, slotPlayedBy, slotPlayed, playedFor
 use Rattle.field.specs.Found.{listed}
 use Rattle.field.specs.Demand.{AllObey}
 use Rattle.field.proofs.Steady.{Steady}
-use Rattle.field.proofs.OwnList.{place-none, own-places, own-lists}
+use Rattle.field.proofs.OwnList.{own-lists}
 use Rattle.field.proofs.Accepted.{walks-accepted, walks-level}
 use Rattle.field.proofs.FixedField.{Fixed, start-fixed}
 use Rattle.field.proofs.Called.{called, slotOf}
@@ -133,7 +133,7 @@ module _ (air : List (List ℕ) → Arrival) (us : List ℕ) where
       let played : SlotPlayedOf us family tags p q =
       slot-played-by air us family tags p obey brings (walks-accepted w ls (w .slot) h (g .walks)) level (running-of w e) f places room row in
       let stay : length (q .list) ≡ length (p .list) =
-      ap length (played .list) ∙ own-places w (slotOf (called us w)) (hasPlace w) (w .count) (p .list) in
+      ap length (played .list) ∙ places-after w (slotOf (called us w)) (hasPlace w) (w .count) (p .list) in
       next-stage family tags us n w (q .walk) (listed (q .walk) (q .list)) (q .room) (q .tags) (rw stay places) obey (g .walks .steady) level h e f
       (rw (played .room) room) count (played .tags) (slot-leaves-by family tags p fit places g h played)
   stage-slot-by {levels} family tags n p obey brings fit (rests places a r v row) =

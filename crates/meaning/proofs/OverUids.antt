@@ -14,6 +14,7 @@ use Rattle.play.specs.Life.{Tag}
 use Rattle.field.specs.Field.{answering}
 use Rattle.field.specs.Played.{Play, fresh}
 use Rattle.field.specs.Played as field
+use Rattle.field.specs.Found.{listed}
 use Rattle.field.specs.Demand.{AllObey, cards}
 use Rattle.field.proofs.Called.{called}
 use Rattle.field.proofs.InTime.{Both, Before}
@@ -71,19 +72,19 @@ module _ (family : ℕ) (tags : List Tag) (obey : AllObey tags) (fit : Suits lev
       → drawnFor n (benchOf (field.slotPlayed p)) ≡ overUids us n (standOf (field.slotPlayed p))
       → drawnFor (suc n) (benchOf p) ≡ overUids us (suc n) (standOf p)
   unfolding drawnFor overUids signed slotDrawn benchOf
-  more-drawn n m p (hears g h e f room count row) later =
+  more-drawn n m p (hears places g h e f room count row) later =
       let w : Walk = p .walk in
-      let s : Stage levels family tags us m p = hears g h e f room count row in
+      let ls : List ℕ = listed w (p .list) in
+      let s : Stage levels family tags us m p = hears places g h e f room count row in
       let running : isRunning w ≡ true = running-of w e in
       let is : sign (rowAir w stillAir (cards (p .tags))) ≡ signFor (length (called us w)) =
-      hears-signed family tags p obey (walks-accepted w (p .list) (w .slot) h (g .walks)) (walks-level w (p .list) (w .slot) (fit .most) (g .walks))
-      running f row in
+      hears-signed family tags p obey (walks-accepted w ls (w .slot) h (g .walks)) (walks-level w ls (w .slot) (fit .most) (g .walks)) running f row in
       rw running (
       ap (λ (q : Played). signed w (sign (rowAir w stillAir (cards (p .tags)))) (q .desk .walk) ++ drawnFor n q) (slot-alike m p s)
       ∙ ap (λ (l : List ℕ). signed w (sign (rowAir w stillAir (cards (p .tags)))) (field.slotPlayed p .walk) ++ l) later
       ∙ (λ i. signed w (is i) (slot-stands m p s i .walk) ++ overUids us n (slot-stands m p s i))
       )
-  more-drawn n m p (rests a r v row) later = rw r
+  more-drawn n m p (rests places a r v row) later = rw r
 
   pub drawn-over : (n m : ℕ) (p : Play) → Stage levels family tags us m p → drawnFor n (benchOf p) ≡ overUids us n (standOf p)
   unfolding drawnFor overUids

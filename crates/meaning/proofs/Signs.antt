@@ -15,6 +15,7 @@ use Rattle.play.specs.Life.{Tag}
 use Rattle.field.specs.Field.{answering}
 use Rattle.field.specs.Played.{Play}
 use Rattle.field.specs.Played as field
+use Rattle.field.specs.Found.{listed}
 use Rattle.field.specs.Demand.{AllObey, cards}
 use Rattle.field.proofs.Called.{called}
 use Rattle.field.proofs.InTime.{Both, Before}
@@ -54,13 +55,13 @@ slot-signs tags p obey accepted level running before =
 stage-signs : (tags : List Tag) (us : List ℕ) (n : ℕ) (p : Play) → AllObey tags → Stage levels 256 tags us n p → isRunning (p .walk) ≡ true
     → Signs (answering 256 tags) (benchOf p)
 unfolding levels
-stage-signs tags us n p obey (hears g h e f room count row) running =
+stage-signs tags us n p obey (hears places g h e f room count row) running =
     let w : Walk = p .walk in
+    let ls : List ℕ = listed w (p .list) in
     subst (λ (x : ℕ). Signs (answering x tags) (benchOf p)) f
-    (slot-signs tags p obey (walks-accepted w (p .list) (w .slot) h (g .walks)) (walks-level w (p .list) (w .slot) (omega arith) (g .walks))
-    (running-of w e)
+    (slot-signs tags p obey (walks-accepted w ls (w .slot) h (g .walks)) (walks-level w ls (w .slot) (omega arith) (g .walks)) (running-of w e)
     (subst⁻¹ (λ (x : ℕ). Before x (w .level) (w .mask) (w .slot) tags (p .tags)) f row))
-stage-signs tags us n p obey (rests a r v row) running = absurd (subst T (sym running ∙ r) tt)
+stage-signs tags us n p obey (rests places a r v row) running = absurd (subst T (sym running ∙ r) tt)
 
 field-stage : (us : List ℕ) → ((i : ℕ) → getD us i 0 < 2 ^ 64) → (n : ℕ)
     → Stage levels 256 (tagsOf us) (answering 256 (tagsOf us)) (0 + n) (field.playedFor n (freshField us))

@@ -13,13 +13,14 @@ use Rattle.walk.specs.declared.Walk.{Walk}
 use Rattle.walk.specs.declared.Slot.{Slot}
 use Rattle.walk.specs.Marks.{levels}
 use Rattle.walk.specs.Record.{isAccepted, isRunning}
-use Rattle.walk.specs.Hear.{judged, walkAfter, listAfter}
+use Rattle.walk.specs.Hear.{judged, hasPlace, walkAfter, listAfter}
 use Rattle.walk.specs.Ask.{Asking}
 use Rattle.walk.proofs.HearWays.{walk-heard, ended-heard}
 use Rattle.play.specs.Life.{Tag}
 use Rattle.field.specs.Field.{answering}
 use Rattle.field.specs.Played.{Play}
 use Rattle.field.specs.Played as field
+use Rattle.field.specs.Found.{listed}
 use Rattle.field.specs.Demand.{AllObey, cards}
 use Rattle.field.proofs.Called.{called, slotOf}
 use Rattle.field.proofs.InTime.{Both, Before}
@@ -47,7 +48,8 @@ benchOf p = playedOf (deskOf (p .walk) (p .list)) (cards (p .tags))
 -- ---- a walk that hears
 
 desk-heard : (w : Walk) (list : List ℕ) (air : Air) (slot : Slot) → isAccepted w ≡ true → isRunning w ≡ true → 64 ≤ length list
-    → judged w (airKind air) (airBytes air) ≡ slot → deskAfter (deskOf w list) air ≡ deskOf (walkAfter w slot) (listAfter w slot list)
+    → judged w (airKind air) (airBytes air) ≡ slot
+    → deskAfter (deskOf w list) air ≡ deskOf (walkAfter w slot (hasPlace w)) (listAfter w slot (hasPlace w) (w .count) list)
 unfolding deskAfter
 desk-heard w list air slot accepted running places heard = rw (walk-heard w (airKind air) (airBytes air) list accepted running places, heard)
 
@@ -93,11 +95,12 @@ rests-alike p accepted ended =
 slots-alike : (family : ℕ) (tags : List Tag) (us : List ℕ) (n : ℕ) (p : Play) → AllObey tags → Stage levels family tags us n p
     → slotPlayed (benchOf p) ≡ benchOf (field.slotPlayed p)
 unfolding levels
-slots-alike family tags us n p obey (hears g h e f room count row) =
+slots-alike family tags us n p obey (hears places g h e f room count row) =
     let w : Walk = p .walk in
-    hears-alike tags p obey (walks-accepted w (p .list) (w .slot) h (g .walks)) (walks-level w (p .list) (w .slot) (omega arith) (g .walks))
-    (running-of w e) (g .walks .places-fit) room (subst⁻¹ (λ (x : ℕ). Before x (w .level) (w .mask) (w .slot) tags (p .tags)) f row)
-slots-alike family tags us n p obey (rests a r v row) = rests-alike p a r ∙ sym (ap benchOf (ended-played p a r))
+    let ls : List ℕ = listed w (p .list) in
+    hears-alike tags p obey (walks-accepted w ls (w .slot) h (g .walks)) (walks-level w ls (w .slot) (omega arith) (g .walks)) (running-of w e) places room
+    (subst⁻¹ (λ (x : ℕ). Before x (w .level) (w .mask) (w .slot) tags (p .tags)) f row)
+slots-alike family tags us n p obey (rests places a r v row) = rests-alike p a r ∙ sym (ap benchOf (ended-played p a r))
 
 pub played-alike : (family : ℕ) (tags : List Tag) (n m : ℕ) (p : Play) → AllObey tags → Suits levels (answering family tags)
     → Stage levels family tags (answering family tags) m p → playedFor n (benchOf p) ≡ benchOf (field.playedFor n p)

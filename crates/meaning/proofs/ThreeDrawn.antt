@@ -8,7 +8,7 @@ use Rattle.tails.specs.Tails.{ending}
 use Rattle.walk.specs.Marks.{levels, waits, withMark, withoutMark, lowestFrom, lowest, deepestOf, deepest}
 use Rattle.walk.specs.Record as walk
 use Rattle.walk.specs.Record.{places, levelsOf, mostRounds, mostSlots, maskLength, isRunning, remade, counted, marked, atNextSlot, openedMask, openedAt, opened, noMarks, startedOf, started}
-use Rattle.walk.specs.Hear.{endsAtOnce, noted, listNoted, turned, passed, walkAfter, listAfter}
+use Rattle.walk.specs.Hear.{hasPlace, endsAtOnce, noted, listNoted, turned, passed, walkAfter, listAfter}
 use Rattle.field.proofs.Called.{called, slotOf}
 use Rattle.field.proofs.Stood.{stood}
 use Rattle.field.specs.Examples.{three, threeEnd}
@@ -27,7 +27,7 @@ use Rattle.meaning.proofs.ThreePrinted.{bench}
 use Rattle.meaning.proofs.OverUids.{signed, overUids, bench-drawn}
 
 three-over : heading ++ overUids three (mostSlots levels) (record { walk = started 256; list = noUids }) ≡ threeDrawn
-unfolding heading mostSlots overUids signed signFor lineHead roundShown tailShown decimal decimalOf digit hexDigits stood isRunning started startedOf noMarks noUids walkAfter listAfter endsAtOnce noted listNoted passed turned walk.ended counted marked atNextSlot opened openedAt remade openedMask maskLength withMark withoutMark waits lowest lowestFrom deepest deepestOf levels levelsOf places mostRounds called ending slotOf
+unfolding heading mostSlots overUids signed signFor lineHead roundShown tailShown decimal decimalOf digit hexDigits stood isRunning started startedOf noMarks noUids walkAfter listAfter hasPlace endsAtOnce noted listNoted passed turned walk.ended counted marked atNextSlot opened openedAt remade openedMask maskLength withMark withoutMark waits lowest lowestFrom deepest deepestOf levels levelsOf places mostRounds called ending slotOf
 three-over = refl
 
 -- ---- the end of the walk

@@ -4,19 +4,18 @@ use mathlib.Core.Path.{_≡_, refl, sym, ap, subst, _∙_}
 use mathlib.Core.Bool.{Bool, true, false, cond}
 use Prim.Native.Nat.{ℕ, zero, suc, _+_, _≤_, _<_}
 use native.Mathlib.Omega.{arith}
-use mathlib.Core.List.{List}
 use borrow.Author.Tests.{ltb-true, ltb-false}
 use lib.Dec.{ltb, eqb}
-use lib.ListN.{length, length-set}
+use lib.ListN.{length}
 use Rattle.walk.specs.declared.Walk.{Walk}
 use Rattle.walk.specs.declared.Slot.{Slot}
 use Rattle.walk.specs.declared.Slot.the-variants.{Silent, Clashed, Clean}
 use Rattle.walk.specs.Marks.{levels, deepest}
 use Rattle.walk.specs.Record.{levelsOf, mostRounds, isRunning, isAccepted, remade, ended, counted, marked, atNextSlot, openedAt, opened, started}
-use Rattle.walk.specs.Hear.{Hearing, refusal, judged, endsAtOnce, noted, listNoted, turned, passed, walkAfter, listAfter, hearing}
+use Rattle.walk.specs.Hear.{Hearing, refusal, judged, hasPlace, endsAtOnce, noted, turned, passed, walkAfter, hearing}
 use Rattle.walk.proofs.LevelsStay.{levels-started, levels-heard}
 use Rattle.walk.proofs.Accepted.{started-accepted, heard-accepted}
-use Rattle.walk.proofs.HearWays.{walk-heard}
+use Rattle.walk.proofs.HearWays.{places-after, walk-heard}
 use Rattle.row.specs.declared.Air.{Air}
 use Rattle.row.specs.declared.Desk.{Desk}
 use Rattle.row.specs.Row.{airKind, airBytes, deskAfter}
@@ -55,9 +54,9 @@ noted-moves w Silent h = passed-moves w h
 noted-moves w Clashed h = alike refl refl (passed-moves (marked w) h)
 noted-moves w (Clean uid) h = alike refl refl (passed-moves (counted w) h)
 
-after-moves : (w : Walk) (slot : Slot) → w .slot ≤ 15 → Moves w (walkAfter w slot)
+after-moves : (w : Walk) (slot : Slot) (place : Bool) → w .slot ≤ 15 → Moves w (walkAfter w slot place)
 unfolding walkAfter ended remade isRunning
-after-moves w slot h = by-test (eqb (endsAtOnce w slot) 0) w _ _ (λ e. noted-moves w slot h) (λ e. stops e)
+after-moves w slot place h = by-test (eqb (endsAtOnce w slot place) 0) w _ _ (λ e. noted-moves w slot h) (λ e. stops e)
 
 -- ---- a desk whose walk is accepted and has 16 levels at the most, with a list of 64 places
 
@@ -69,16 +68,6 @@ pub record Fit (d : Desk) : Type 0 where
 pub fresh-fit : Fit freshDesk
 unfolding freshDesk noUids started levels
 fresh-fit = record { accepted = started-accepted 256; few = omega (arith, levels-started levels 256); places = refl }
-
-length-listed : (w : Walk) (slot : Slot) (list : List ℕ) → length (listAfter w slot list) ≡ length list
-unfolding listAfter listNoted
-length-listed w slot list = go (eqb (endsAtOnce w slot) 0) slot
-  where
-    go : (b : Bool) (slot : Slot) → length (cond b (listNoted w slot list) list) ≡ length list
-    go true Silent = refl
-    go true Clashed = refl
-    go true (Clean uid) = length-set list (w .count) uid
-    go false slot = refl
 
 length-heard : (b : Bool) (x y : Hearing) (n : ℕ) → length (x .list) ≡ n → length (y .list) ≡ n → length (cond b x y .list) ≡ n
 length-heard true x y n p q = p
@@ -92,7 +81,7 @@ after-fit d air f =
       accepted = heard-accepted w (airKind air) (airBytes air) (d .list) (f .accepted);
       few = omega (arith, levels-heard w (airKind air) (airBytes air) (d .list), f .few);
       places = length-heard (eqb (refusal w (length (d .list))) 0) _ _ 64
-          (length-listed w (judged w (airKind air) (airBytes air)) (d .list) ∙ f .places) (f .places);
+          (places-after w (judged w (airKind air) (airBytes air)) (hasPlace w) (w .count) (d .list) ∙ f .places) (f .places);
     }
 
 pub desk-moves : (d : Desk) (air : Air) → Fit d → isRunning (d .walk) ≡ true → d .walk .slot ≤ 15 → Moves (d .walk) (deskAfter d air .walk)
@@ -100,4 +89,4 @@ unfolding deskAfter
 desk-moves d air f running h =
     let w : Walk = d .walk in
     let heard = walk-heard w (airKind air) (airBytes air) (d .list) (f .accepted) running (omega (arith, f .places)) in
-    subst (Moves w) (sym (ap (λ (x : Hearing). x .walk) heard)) (after-moves w (judged w (airKind air) (airBytes air)) h)
+    subst (Moves w) (sym (ap (λ (x : Hearing). x .walk) heard)) (after-moves w (judged w (airKind air) (airBytes air)) (hasPlace w) h)

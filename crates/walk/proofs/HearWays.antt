@@ -4,13 +4,13 @@ use mathlib.Core.Bool.{Bool, true, false, cond}
 use mathlib.Core.List.{List}
 use Prim.Native.Nat.{ℕ, suc, _+_, _-_, _≤_, _<_}
 use native.Mathlib.Omega.{arith}
-use borrow.Author.Tests.{lt-ltb, le-ltb, ltb-true, leb-true, le-leb, ne-eqb}
+use borrow.Author.Tests.{lt-ltb, le-ltb, ltb-true, ltb-false, leb-true, le-leb, ne-eqb}
 use lib.Dec.{leb, ltb, eqb}
-use lib.ListN.{length}
+use lib.ListN.{length, length-set}
 use Rattle.walk.specs.declared.Walk.{Walk}
 use Rattle.walk.specs.declared.Kind.{Kind}
 use Rattle.walk.specs.declared.Slot.{Slot}
-use Rattle.walk.specs.declared.Slot.the-variants.{Clashed, Clean}
+use Rattle.walk.specs.declared.Slot.the-variants.{Silent, Clashed, Clean}
 use Rattle.walk.specs.Record.{places, levelsOf, mostRounds, isRunning, isAccepted, ended, opened}
 use Rattle.walk.specs.Hear.{judged, hasPlace, endsAtOnce, noted, listNoted, turned, passed, walkAfter, listAfter, refusal, hearing, Hears}
 use Rattle.walk.specs.Steps.{After}
@@ -43,6 +43,10 @@ pub place-below : (w : Walk) → hasPlace w ≡ true → w .count < 64
 unfolding hasPlace places
 place-below w e = ltb-true (w .count) 64 e
 
+pub place-none : (w : Walk) → hasPlace w ≡ false → 64 ≤ w .count
+unfolding hasPlace places
+place-none w e = ltb-false (w .count) 64 e
+
 -- ---- after slot 15
 
 pub turned-complete : (w : Walk) (n : ℕ) → n ≡ 0 → turned w n ≡ ended 1 w
@@ -74,6 +78,21 @@ pub after-passing : (w : Walk) (slot : Slot) (place : Bool) (at : ℕ) (list : L
     → r ≡ passed (noted w slot) → left ≡ listNoted slot at list → After (walkAfter w slot place) (listAfter w slot place at list) r left
 unfolding walkAfter listAfter
 after-passing w slot place at list r left is e f = record { walk-left = rw is e; list-left = rw is f }
+
+-- a list keeps its places
+places-noted : (slot : Slot) (at : ℕ) (list : List ℕ) → length (listNoted slot at list) ≡ length list
+unfolding listNoted
+places-noted Silent at list = refl
+places-noted Clashed at list = refl
+places-noted (Clean uid) at list = length-set list at uid
+
+pub places-after : (w : Walk) (slot : Slot) (place : Bool) (at : ℕ) (list : List ℕ) → length (listAfter w slot place at list) ≡ length list
+unfolding listAfter
+places-after w slot place at list = go (eqb (endsAtOnce w slot place) 0)
+  where
+    go : (b : Bool) → length (cond b (listNoted slot at list) list) ≡ length list
+    go true = places-noted slot at list
+    go false = refl
 
 -- ---- the call
 
