@@ -41,7 +41,7 @@ judged w Bytes bytes = cond (isClean w bytes) (Clean (uidOf bytes)) Clashed
 unfoldable pub hasPlace : Walk → Bool
 hasPlace w = ltb (w .count) places
 
--- "twins (a clash at k=15, at once), full (.., at once)": the ending, or 0, where there is a place for a clean UID, or none
+-- "twins (a clash at k=15, at once), full (a clean UID with 64 listed, at once)": the ending, or 0, where there is a place for a clean UID, or none
 unfoldable pub endsAtOnce : Walk → Slot → Bool → ℕ
 endsAtOnce w Silent place = running
 endsAtOnce w Clashed place = cond (ltb (w .level + 1) (levelsOf w)) running twins
