@@ -80,7 +80,7 @@ ending-added v w Clashed place h = refl
 ending-added v w (Clean u) true h = absurd (h refl)
 ending-added v w (Clean u) false h = refl
 
--- it leaves UIDs that weigh the same, and so
+-- it leaves UIDs that weigh the same: what holds of the walk stays
 pub ending-walks : {levels : ℕ} (w : Walk) (ls ls' : List ℕ) (t : ℕ) → Walks levels w ls t → ((v : ℕ → ℕ) → tally v ls' ≡ tally v ls) → Walks levels w ls' t
 unfolding times
 ending-walks w ls ls' t g same =
