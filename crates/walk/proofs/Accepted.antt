@@ -16,10 +16,12 @@ use Rattle.walk.specs.Marks.{levels, deepest, withMark, withoutMark, low
 use Rattle.walk.specs.Record.{levelsOf, mostRounds, maskLength, isAccepted}
 use Rattle.walk.specs.Record.{remade, ended, counted, marked, atNextSlot, openedAt, opened, noMarks, startedOf, started}
 use Rattle.walk.specs.Hear.{judged, hasPlace, endsAtOnce, noted, turned, passed, walkAfter, refusal, Hearing, hearing}
+use Rattle.walk.specs.Shared.{hearRefusal, hasRow, SharedHearing, sharedHearing}
 use Rattle.walk.proofs.Levels.{lowest-is-slot, deepest-none, deepest-set}
 use Rattle.walk.proofs.LevelsStay.{levels-started}
 use Rattle.walk.proofs.Limits.{Accepted, accepted-of-is-accepted, is-accepted-of-accepted, opened-mask-fits}
 use Rattle.walk.proofs.HearWays.{clash-goes-on, clean-goes-on, place-below}
+use Rattle.walk.proofs.SharedWays.{shared-served-of, row-few}
 
 pub started-facts : (levels family : ℕ) → 1 ≤ levels → Accepted (startedOf levels family)
 unfolding startedOf maskLength mostRounds
@@ -169,3 +171,19 @@ heard-either false x y p q = q
 pub heard-accepted : (w : Walk) (kind : Kind) (bytes list : List ℕ) → isAccepted w ≡ true → isAccepted (hearing w kind bytes list .walk) ≡ true
 unfolding hearing
 heard-accepted w kind bytes list h = heard-either (eqb (refusal w (length list)) 0) _ _ (after-accepted w (judged w kind bytes) (hasPlace w) (place-below w) h) h
+
+-- on a shared list, by a test of a call, either way
+shared-either : (b : Bool) (x y : SharedHearing) → (b ≡ true → isAccepted (x .walk) ≡ true) → isAccepted (y .walk) ≡ true
+    → isAccepted (cond b x y .walk) ≡ true
+shared-either true x y p q = p refl
+shared-either false x y p q = q
+
+-- after a call on a shared list, refused or not
+pub shared-accepted : (w : Walk) (rack : ℕ) (kind : Kind) (bytes rows owners : List ℕ) → isAccepted w ≡ true
+    → isAccepted (sharedHearing w rack kind bytes rows owners .walk) ≡ true
+unfolding sharedHearing
+shared-accepted w rack kind bytes rows owners h =
+    let n : ℕ = hearRefusal w rack (length rows) owners in
+    shared-either (eqb n 0) _ _
+    (λ e. after-accepted w (judged w kind bytes) (hasRow rack owners) (row-few w rack (length rows) owners (shared-served-of w rack (length rows) owners (eqb-true n 0 e))) h)
+    h

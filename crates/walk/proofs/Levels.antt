@@ -4,10 +4,11 @@ use mathlib.Core.Path.{_≡_, refl, sym, ap, _∙_}
 use mathlib.Core.Bool.{Bool, true, false, cond}
 use mathlib.Core.List.{List}
 use Prim.Native.Nat.{ℕ, zero, suc, _+_, _-_, _*_, _/_, _%_, _^_, _≤_, _<_}
-use native.Mathlib.Nat.{div-eq-of-lt, mod-lt, mul-le-mul-right, add-mul}
+use native.Mathlib.Nat.{pow-suc, div-div-eq-div-mul, div-eq-of-lt, mod-lt, mul-le-mul-right, add-mul}
 use native.Mathlib.Decide.{decLt}
 use native.Mathlib.Omega.{arith}
 use borrow.Author.Tests.{eqb-true, eqb-false, eq-eqb, ne-eqb}
+use lib.Count.{under, trailingZeros}
 use lib.Dec.{eqb}
 use lib.ListN.{length, getD, set, length-set}
 use lib.Pow.{pow-pos, pow-add, shl-exact, shr-lt, split}
@@ -65,19 +66,52 @@ unfolding lowest
 lowest-is-slot m = omega (arith, lowest-from-most m 0 15)
 
 -- with so many slots left before the last: it is this slot, or else among those after it
-pub lowest-here : (m left : ℕ) → 0 < left → waits m (15 - left) ≡ true → lowestFrom m (15 - left) left ≡ 15 - left
-unfolding lowestFrom
-lowest-here m left h e =
-    let one : left ≡ suc (left - 1) = omega arith in
-    ap (λ (n : ℕ). lowestFrom m (15 - left) n) one ∙ rw e
+-- the zeros below it
+lowest-from-zeros : (m s n : ℕ) → lowestFrom m s n ≡ s + trailingZeros n (m / 2 ^ s)
+unfolding lowestFrom waits trailingZeros
+lowest-from-zeros m s zero = omega arith
+lowest-from-zeros m s (suc n) = go (m / 2 ^ s % 2) refl (lowest-from-zeros m (suc s) n)
+  where
+    half : m / 2 ^ s / 2 ≡ m / 2 ^ suc s
+    half = sym (ap (λ (p : ℕ). m / p) (pow-suc 2 s) ∙ sym (div-div-eq-div-mul m (2 ^ s) 2))
 
-pub lowest-next : (m left : ℕ) → 0 < left → left ≤ 15 → waits m (15 - left) ≡ false
-    → lowestFrom m (15 - left) left ≡ lowestFrom m (15 - (left - 1)) (left - 1)
-unfolding lowestFrom
-lowest-next m left h k e =
-    let one : left ≡ suc (left - 1) = omega arith in
-    let next : suc (15 - left) ≡ 15 - (left - 1) = omega arith in
-    ap (λ (n : ℕ). lowestFrom m (15 - left) n) one ∙ rw (e, next)
+    go : (r : ℕ) → m / 2 ^ s % 2 ≡ r → lowestFrom m (suc s) n ≡ suc s + trailingZeros n (m / 2 ^ suc s)
+        → cond (eqb r 1) s (lowestFrom m (suc s) n) ≡ s + under r (trailingZeros n (m / 2 ^ s / 2))
+    go zero e rest = rest ∙ rw half (omega arith)
+    go (suc zero) e rest = omega arith
+    go (suc (suc r)) e rest = absurd (omega (arith, e))
+
+-- of one digit more
+zeros-short : (k n : ℕ) → trailingZeros (suc k) n < k → trailingZeros k n ≡ trailingZeros (suc k) n
+unfolding trailingZeros
+zeros-short zero n h = absurd (omega arith)
+zeros-short (suc k) n h = go (n % 2) h (zeros-short k (n / 2))
+  where
+    go : (r : ℕ) → under r (trailingZeros (suc k) (n / 2)) < suc k → (trailingZeros (suc k) (n / 2) < k → trailingZeros k (n / 2) ≡ trailingZeros (suc k) (n / 2))
+        → under r (trailingZeros k (n / 2)) ≡ under r (trailingZeros (suc k) (n / 2))
+    go zero h rest = ap suc (rest (omega arith))
+    go (suc r) h rest = refl
+
+zeros-long : (k n : ℕ) → k ≤ trailingZeros (suc k) n → trailingZeros k n ≡ k
+unfolding trailingZeros
+zeros-long zero n h = refl
+zeros-long (suc k) n h = go (n % 2) h (zeros-long k (n / 2))
+  where
+    go : (r : ℕ) → suc k ≤ under r (trailingZeros (suc k) (n / 2)) → (k ≤ trailingZeros (suc k) (n / 2) → trailingZeros k (n / 2) ≡ k) → under r (trailingZeros k (n / 2)) ≡ suc k
+    go zero h rest = ap suc (rest (omega arith))
+    go (suc r) h rest = absurd (omega arith)
+
+lowest-zeros : (m : ℕ) → lowest m ≡ trailingZeros 15 m
+unfolding lowest
+lowest-zeros m =
+    let whole : m / 2 ^ 0 ≡ m = omega arith in
+    lowest-from-zeros m 0 15 ∙ rw whole (omega arith)
+
+pub lowest-short : (m z : ℕ) → z ≡ trailingZeros 16 m → z < 15 → z ≡ lowest m
+lowest-short m z is h = is ∙ sym (zeros-short 15 m (omega arith)) ∙ sym (lowest-zeros m)
+
+pub lowest-long : (m z : ℕ) → z ≡ trailingZeros 16 m → 15 ≤ z → 15 ≡ lowest m
+lowest-long m z is h = sym (zeros-long 15 m (omega arith)) ∙ sym (lowest-zeros m)
 
 -- ---- the deepest level
 

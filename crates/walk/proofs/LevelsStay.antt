@@ -13,6 +13,7 @@ use Rattle.walk.specs.declared.Slot.the-variants.{Silent, Clashed, Clean
 use Rattle.walk.specs.Marks.{deepest}
 use Rattle.walk.specs.Record.{levelsOf, mostRounds, remade, ended, counted, marked, atNextSlot, openedAt, opened, noMarks, startedOf}
 use Rattle.walk.specs.Hear.{judged, hasPlace, endsAtOnce, noted, turned, passed, walkAfter, refusal, Hearing, hearing}
+use Rattle.walk.specs.Shared.{hearRefusal, hasRow, SharedHearing, sharedHearing}
 
 pub levels-started : (levels family : ℕ) → length (startedOf levels family .marks) ≡ levels
 unfolding startedOf noMarks
@@ -61,3 +62,15 @@ heard-either false n x y p q = q
 pub levels-heard : (w : Walk) (kind : Kind) (bytes list : List ℕ) → length (hearing w kind bytes list .walk .marks) ≡ length (w .marks)
 unfolding hearing
 levels-heard w kind bytes list = heard-either (eqb (refusal w (length list)) 0) _ _ _ (levels-after w (judged w kind bytes) (hasPlace w)) refl
+
+-- on a shared list, by a test of a call, either way
+shared-either : (b : Bool) (n : ℕ) (x y : SharedHearing) → length (x .walk .marks) ≡ n → length (y .walk .marks) ≡ n → length (cond b x y .walk .marks) ≡ n
+shared-either true n x y p q = p
+shared-either false n x y p q = q
+
+-- after a call on a shared list, refused or not
+pub levels-shared : (w : Walk) (rack : ℕ) (kind : Kind) (bytes rows owners : List ℕ)
+    → length (sharedHearing w rack kind bytes rows owners .walk .marks) ≡ length (w .marks)
+unfolding sharedHearing
+levels-shared w rack kind bytes rows owners =
+    shared-either (eqb (hearRefusal w rack (length rows) owners) 0) _ _ _ (levels-after w (judged w kind bytes) (hasRow rack owners)) refl

@@ -1,5 +1,12 @@
 pub mod Levels
 pub mod Limits
+pub mod MarkLists
+pub mod MarksFreed
+pub mod Owners
+pub mod OwnersSteps
+pub mod Rows
+pub mod SharedTests
+pub mod SharedWays
 pub mod HearWays
 pub mod Requests
 pub mod AskWays

@@ -56,7 +56,7 @@ pub(crate) fn judge(walk: Walk, kind: Kind, bytes: &[u8]) -> Slot
 }
 
 // Twins, full, or 0 where the slot ends nothing at once. Place says whether a clean UID has one.
-fn ends_at_once(walk: Walk, slot: Slot, place: bool) -> u8
+pub(crate) fn ends_at_once(walk: Walk, slot: Slot, place: bool) -> u8
     ensures { λ r. ⌜ r ≡ endsAtOnce walk slot place ⌝ }
 {
     match slot {
@@ -67,7 +67,7 @@ fn ends_at_once(walk: Walk, slot: Slot, place: bool) -> u8
 }
 
 // The slot in the walk's marks, or in its count and at a place of the list.
-fn note(walk: Walk, slot: Slot, at: usize, list: &mut [u64]) -> Walk
+pub(crate) fn note(walk: Walk, slot: Slot, at: usize, list: &mut [u64]) -> Walk
     requires { ⌜ isAccepted walk ≡ true ⌝ }
     requires { ⌜ ((uid : ℕ) → slot ≡ Clean uid → (walk .count < 64) × (at < length (now list))) ⌝ }
     ensures { λ r. ⌜ After (noted walk slot) (listNoted slot at (now (list .entry))) r (now (list .exit)) ⌝ }
@@ -115,7 +115,7 @@ fn refusal(walk: Walk, room: usize) -> u8
 }
 
 // The slot in a walk that hears. Place says whether there is one for a clean UID, and at where in the list it is.
-pub(crate) fn take(walk: Walk, slot: Slot, place: bool, at: usize, list: &mut [u64]) -> Walk
+fn take(walk: Walk, slot: Slot, place: bool, at: usize, list: &mut [u64]) -> Walk
     requires { ⌜ isAccepted walk ≡ true ⌝ }
     requires { ⌜ (place ≡ true → (walk .count < 64) × (at < length (now list))) ⌝ }
     ensures { λ r. ⌜ After (walkAfter walk slot place) (listAfter walk slot place at (now (list .entry))) r (now (list .exit)) ⌝ }

@@ -3,6 +3,7 @@ mod ask;
 mod hear;
 mod marks;
 mod record;
+mod shared;
 
 // The levels of a walk: its marks have a number for each.
 pub const LEVELS: usize = 16;

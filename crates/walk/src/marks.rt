@@ -37,15 +37,8 @@ pub(crate) fn without_mark(m: u16, s: u8) -> u16
 pub(crate) fn lowest(m: u16) -> u8
     ensures { λ r. ⌜ r ≡ lowest m ⌝ }
 {
-    let mut left = 15;
-    while 0 < left {
-        let s = 15 - left;
-        if waits(m, s) {
-            return s;
-        }
-        left -= 1;
-    }
-    15
+    let zeros = u16::trailing_zeros(m);
+    if zeros < 15 { zeros as u8 } else { 15 }
 }
 
 // One more than the deepest level with a mark, or 0.
