@@ -35,13 +35,13 @@ unfolding cards cardsLeft cardLeft inStep
 cards-of family w [] [] row.none = refl
 cards-of family w (t₀ ∷ ts₀) (t ∷ ts) (row.more h b) = ap₂ (λ (c : Card) (cs : List Card). c ∷ cs) (h .card) (cards-of family w ts₀ ts b)
 
-memories-of : (family level mask s : ℕ) (ts₀ ts : List Tag) → Both (AtSlot family level mask s) ts₀ ts → memories ts ≡ memories ts₀
+pub memories-of : (family level mask s : ℕ) (ts₀ ts : List Tag) → Both (AtSlot family level mask s) ts₀ ts → memories ts ≡ memories ts₀
 unfolding memories
 memories-of family level mask s [] [] row.none = refl
 memories-of family level mask s (t₀ ∷ ts₀) (t ∷ ts) (row.more h b) =
     ap₂ (λ (m : List ℕ) (ms : List (List ℕ)). m ∷ ms) (h .memory) (memories-of family level mask s ts₀ ts b)
 
-locks-of : (family level mask s : ℕ) (ts₀ ts : List Tag) → Both (AtSlot family level mask s) ts₀ ts → lockBytes ts ≡ lockBytes ts₀
+pub locks-of : (family level mask s : ℕ) (ts₀ ts : List Tag) → Both (AtSlot family level mask s) ts₀ ts → lockBytes ts ≡ lockBytes ts₀
 unfolding lockBytes
 locks-of family level mask s [] [] row.none = refl
 locks-of family level mask s (t₀ ∷ ts₀) (t ∷ ts) (row.more h b) =

@@ -1,0 +1,5 @@
+pub mod Calls
+pub mod OneCall
+pub mod Rack
+pub mod Replies
+pub mod Examples

@@ -1,0 +1,1 @@
+// Two racks over one list: definitions and theorems alone.
