@@ -36,6 +36,7 @@ help:
 	@echo 'make inventory  from C: code an inventory request as a pulse track and read it back (make demo-c does the same)'
 	@echo 'make tag        from C: play a tag; inventory, families, read, write, slot mark'
 	@echo 'make walk       from C: walk fields of cards'
+	@echo 'make racks      from C: walk two racks in turn over one list'
 	@echo 'make tools      from C: walk a rack, and show length and wear of each tool in it'
 	@echo 'make coil       from C: walk tags whose answers lie over each other as raw subcarrier'
 	@echo 'make install    programs, library, header, pkg-config file and pages below PREFIX ($(PREFIX)); make uninstall takes them away'

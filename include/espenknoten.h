@@ -45,7 +45,7 @@ extern "C" {
  * header and archive do not belong together. Refuses nothing.
  */
 #define EK_VERSION_MAJOR 2
-#define EK_VERSION_MINOR 3
+#define EK_VERSION_MINOR 4
 #define EK_VERSION_PATCH 0
 #define EK_VERSION                                                             \
     (65536 * EK_VERSION_MAJOR + 256 * EK_VERSION_MINOR + EK_VERSION_PATCH)
@@ -64,6 +64,10 @@ uint32_t ek_version(void);
  *                    EK_REFUSED_CARD_LOCK, EK_REFUSED_CARD_ROOM
  *   ek_walk_ask      EK_REFUSED_WALK, EK_REFUSED_ROOM
  *   ek_walk_hear_..  EK_REFUSED_WALK, EK_REFUSED_ENDED, EK_REFUSED_LIST
+ *   ek_shared_start  EK_REFUSED_RACK, EK_REFUSED_LIST
+ *   ek_shared_hear_..
+ *                    EK_REFUSED_RACK, EK_REFUSED_WALK, EK_REFUSED_ENDED,
+ *                    EK_REFUSED_LIST, and for its list EK_REFUSED_WALK again
  *   ek_make          EK_REFUSED_REQUEST, EK_REFUSED_ROOM
  *   ek_read          EK_REFUSED_REQUEST, EK_REFUSED_ROOM, EK_REFUSED_ANSWER
  *   ek_coil_code     EK_REFUSED_ANSWER_LENGTH, EK_REFUSED_ROOM
@@ -75,16 +79,17 @@ uint32_t ek_version(void);
 #define EK_REFUSED_CARD_LENGTHS (-2)    /* memory or locks of another length */
 #define EK_REFUSED_CARD_LOCK (-3)       /* a lock byte over 1 */
 #define EK_REFUSED_CARD_ROOM (-4)       /* room for the answer short */
-#define EK_REFUSED_LIST (-5)            /* fewer than EK_LIST_PLACES places */
+#define EK_REFUSED_LIST (-5)            /* list or marks short, or a bad mark */
 #define EK_REFUSED_ENDED (-6)           /* hearing after an ending */
 #define EK_REFUSED_FRAME_OR_CODING (-7) /* frame over 64 bytes, or no coding */
 #define EK_REFUSED_REQUEST (-7)         /* a request that is not made */
 #define EK_REFUSED_ANSWER_LENGTH (-7)   /* answer not of 3 to 8,451 bytes */
 #define EK_REFUSED_ROOM (-8)            /* room short */
 #define EK_REFUSED_NO_TRACK (-9)        /* not a track */
-#define EK_REFUSED_WALK (-10)           /* a walk's record, see below */
+#define EK_REFUSED_WALK (-10)           /* a walk's record, or a rack's rows */
 #define EK_REFUSED_ANSWER (-11)         /* not an answer to the request */
 #define EK_REFUSED_NO_ANSWER_TRACK (-12) /* wrong start, end or length */
+#define EK_REFUSED_RACK (-13)           /* a rack other than 0 and 1 */
 
 /* The longest frame, in bytes. */
 #define EK_FRAME_MAX 64
@@ -451,7 +456,7 @@ int64_t ek_card_power_off(uint8_t *record, size_t record_length,
  * has left the record as it is: its level or slot is over 15, its count over
  * EK_LIST_PLACES, its rounds are 0 or over EK_WALK_ROUNDS_MAX, its mask has a
  * bit above the low 4 * level, or a mark stands at a level deeper than its own
- * or at the last.
+ * or at the last. ek_shared_hear_.. gives it for its list too, as told there.
  */
 struct ek_walk {
     uint16_t marks[16]; /* for each level: bit s is set while slot s clashed
@@ -477,7 +482,7 @@ typedef char ek_walk_has_48_bytes[sizeof(struct ek_walk) == 48 ? 1 : -1];
 #define EK_WALK_RUNNING 0
 #define EK_WALK_COMPLETE 1 /* no clash waits */
 #define EK_WALK_TWINS 2    /* a clash at level 15, as of two UIDs alike */
-#define EK_WALK_FULL 3     /* a UID with EK_LIST_PLACES listed */
+#define EK_WALK_FULL 3     /* a UID with EK_LIST_PLACES listed; shared: below */
 #define EK_WALK_OVERRUN 4  /* a round over EK_WALK_ROUNDS_MAX was needed */
 
 #define EK_WALK_NO_FAMILY 256
@@ -518,8 +523,9 @@ int64_t ek_walk_ask(const struct ek_walk *walk, uint8_t *request, size_t room);
  * clean reply, unless the walk ends EK_WALK_FULL at it, stands in list at the
  * place that walk->count had, and no other place changes. Only the first
  * EK_LIST_PLACES places are used.
- * In this order EK_REFUSED_WALK, EK_REFUSED_ENDED, EK_REFUSED_LIST: the record
- * and the list stay as they are.
+ * In this order EK_REFUSED_WALK, EK_REFUSED_ENDED, EK_REFUSED_LIST, which is a
+ * list of fewer than EK_LIST_PLACES places: the record and the list stay as
+ * they are.
  */
 int64_t ek_walk_hear_silence(struct ek_walk *walk, uint64_t *list,
                              size_t places);
@@ -527,6 +533,96 @@ int64_t ek_walk_hear_clash(struct ek_walk *walk, uint64_t *list,
                            size_t places);
 int64_t ek_walk_hear_bytes(struct ek_walk *walk, const uint8_t *bytes,
                            size_t length, uint64_t *list, size_t places);
+
+/*
+ * The shared list: two racks, 0 and 1, each with a walk of its own, and one
+ * list of EK_LIST_PLACES rows for both. Beside each row stands its owner's
+ * mark: the number of the rack that owns it, or EK_ROW_FREE. A rack's list is
+ * the rows that it owns, from row 0 on:
+ *
+ *     struct ek_walk walk;                          one for each rack
+ *     uint64_t rows[EK_LIST_PLACES];                one list for both
+ *     uint8_t owners[EK_LIST_PLACES];
+ *     memset(owners, EK_ROW_FREE, sizeof owners);   an empty list, once;
+ *                                                   zeros are rack 0's rows
+ *     int64_t n = ek_shared_start(&walk, rack, EK_WALK_NO_FAMILY, owners,
+ *                                 sizeof owners);
+ *     if (n < 0) ..                                 refused: stop and tell
+ *     .. the loop above, with n = one of the three calls ek_shared_hear_..
+ *        (&walk, rack, .., rows, EK_LIST_PLACES, owners, sizeof owners)
+ *     for (i = 0; i < EK_LIST_PLACES; i++) {
+ *         if (owners[i] == rack) ..                 rows[i] is in its list
+ *     }
+ *
+ * Only EK_WALK_COMPLETE says that a rack's list is whole. Between calls the
+ * lists of both may be read.
+ *
+ * A UID goes into the lowest free row. A rack owns EK_RACK_ROWS_MAX rows at the
+ * most, so that 24 are always left for the other; EK_WALK_FULL means here that
+ * a UID came while its rack owned so many, or no row was free. A UID that both
+ * racks hear takes a row in each. To start a rack's walk anew frees its rows,
+ * and no others; until then it keeps them, also after an ending. Both walks may
+ * run, their calls in turn: as both are lent the list, never two at once, nor
+ * one in a handler that interrupts the other. But a tag follows the last
+ * request that reaches it. Where a tag hears both racks let one walk end before
+ * the other sends: else both may end EK_WALK_COMPLETE without it.
+ *
+ * With up to 24 tags answering a rack, its walk ends as one that has a list of
+ * its own: EK_WALK_COMPLETE, or EK_WALK_TWINS where two are alike. With 25 to
+ * EK_RACK_ROWS_MAX it may also end EK_WALK_FULL, two alike or not, where the
+ * other rack has left too few rows: when more are free, start it anew. With
+ * more tags it never ends EK_WALK_COMPLETE.
+ *
+ * A walk keeps to the calls, the rack and the list that it was started with:
+ * ek_walk_start goes with ek_walk_hear_.., ek_shared_start with
+ * ek_shared_hear_.. of the same rack; ek_walk_ask serves both. The record tells
+ * none of this: a wrong call, or an older copy of the record put back, is
+ * refused (EK_REFUSED_WALK) only where walk->count is not the number of rows
+ * that the named rack owns. Where it is served the lists are spoilt: start both
+ * racks anew. What ek_walk_hear_.. lists may overwrite a row of the other rack:
+ * it looks at no mark.
+ */
+#define EK_ROW_FREE 255     /* the mark of a row that no rack owns */
+#define EK_RACK_ROWS_MAX 40 /* the most rows that a rack owns */
+
+/*
+ * Starts a rack's walk as ek_walk_start does, over whatever stands in the
+ * record, and frees the rack's rows: each of its marks becomes EK_ROW_FREE. No
+ * other mark changes, and no row, so the UIDs stand there until others take
+ * their place. It is served also where a rack owns too many rows to be heard.
+ * Returns 0. Only the first EK_LIST_PLACES marks are looked at.
+ * EK_REFUSED_RACK: rack is neither 0 nor 1. EK_REFUSED_LIST, looked for after
+ * that: marks is less than EK_LIST_PLACES, or one of them is none of
+ * EK_ROW_FREE, 0 and 1. The record and the marks stay as they are.
+ */
+int64_t ek_shared_start(struct ek_walk *walk, uint32_t rack, uint16_t family,
+                        uint8_t *owners, size_t marks);
+
+/*
+ * The slot of a rack's walk is over, as for ek_walk_hear_.. above. Returns 0.
+ * The record is then changed as there, but that EK_WALK_FULL comes as told for
+ * a shared list; the UID of a clean reply, unless the walk ends so, stands in
+ * the lowest free row, whose mark is now the rack's. No other row changes, and
+ * no other mark. Only the first EK_LIST_PLACES rows and marks are looked at.
+ * In this order, and the record, the rows and the marks stay as they are:
+ *   EK_REFUSED_RACK: rack is neither 0 nor 1.
+ *   EK_REFUSED_WALK: the record, as for any walk.
+ *   EK_REFUSED_ENDED: the walk has ended.
+ *   EK_REFUSED_LIST: places or marks are less than EK_LIST_PLACES, or a mark is
+ *   none of EK_ROW_FREE, 0 and 1.
+ *   EK_REFUSED_WALK: a rack, this or the other, owns more than EK_RACK_ROWS_MAX
+ *   rows; or walk->count is not the number of rows that this rack owns.
+ */
+int64_t ek_shared_hear_silence(struct ek_walk *walk, uint32_t rack,
+                               uint64_t *rows, size_t places, uint8_t *owners,
+                               size_t marks);
+int64_t ek_shared_hear_clash(struct ek_walk *walk, uint32_t rack,
+                             uint64_t *rows, size_t places, uint8_t *owners,
+                             size_t marks);
+int64_t ek_shared_hear_bytes(struct ek_walk *walk, uint32_t rack,
+                             const uint8_t *bytes, size_t length,
+                             uint64_t *rows, size_t places, uint8_t *owners,
+                             size_t marks);
 
 /*
  * The reader's half of the block commands: a request to a tag, and what its
@@ -671,6 +767,10 @@ struct ek_reading ek_read(struct ek_request request, const uint8_t *answer,
  *   EK_COIL_KIND(r) is EK_COIL_ANSWER          ek_walk_hear_bytes
  *   it is EK_COIL_CLASH or EK_COIL_LOST        ek_walk_hear_clash
  *   r is EK_REFUSED_NO_ANSWER_TRACK            ek_walk_hear_clash
+ *
+ * A walk over a shared list is told the same by ek_shared_hear_.. in its place;
+ * 24 and EK_RACK_ROWS_MAX then count different answers. What is proved of whole
+ * walks on the coil is proved for a walk with a list of its own.
  */
 #define EK_COIL_START 0x1D
 #define EK_COIL_END 0xB8

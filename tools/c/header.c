@@ -498,15 +498,20 @@ static int64_t clash(void)
     return ek_walk_hear_clash(&walk, list, EK_LIST_PLACES);
 }
 
-/* A card of this UID answers. */
-static int64_t reply(uint64_t uid)
+/* What a card of this UID answers. */
+static void put_reply(uint8_t *bytes, uint64_t uid)
 {
-    uint8_t bytes[EK_INVENTORY_ANSWER] = {0};
     bytes[EK_INVENTORY_FLAGS] = EK_ANSWER_SUCCESS;
     bytes[EK_INVENTORY_DSFID] = 0xD5;
     ek_put_number(bytes + EK_INVENTORY_UID, 8, uid);
-    MUST(ek_seal(bytes, sizeof bytes, EK_INVENTORY_CHECK) ==
+    MUST(ek_seal(bytes, EK_INVENTORY_ANSWER, EK_INVENTORY_CHECK) ==
          EK_INVENTORY_ANSWER);
+}
+
+static int64_t reply(uint64_t uid)
+{
+    uint8_t bytes[EK_INVENTORY_ANSWER];
+    put_reply(bytes, uid);
     return ek_walk_hear_bytes(&walk, bytes, sizeof bytes, list, EK_LIST_PLACES);
 }
 
@@ -676,6 +681,322 @@ static void orders_of_walk(void)
     MUST(ek_walk_ask(&walk, request, 0) == EK_REFUSED_ROOM);
     walk.slot = 1;
     MUST(ek_walk_ask(&walk, request, 0) == EK_SEND_MARK);
+}
+
+/* ---- the shared list, with the walk above as one rack's */
+
+static uint64_t rows[EK_LIST_PLACES + 1];
+static uint64_t rows_before[EK_LIST_PLACES + 1];
+static uint8_t odd[EK_LIST_PLACES + 2];
+static uint8_t *const owners = odd + 1; /* bytes may stand anywhere */
+static uint8_t owners_before[EK_LIST_PLACES + 1];
+
+/* So many rows of rack 0, then so many of rack 1; the others are free. */
+static void share(size_t first, size_t second)
+{
+    for (size_t i = 0; i <= EK_LIST_PLACES; i++) {
+        rows[i] = UID + i;
+    }
+    memset(owners, EK_ROW_FREE, EK_LIST_PLACES + 1);
+    memset(owners, 0, first);
+    memset(owners + first, 1, second);
+}
+
+static void keep(void)
+{
+    memcpy(rows_before, rows, sizeof rows);
+    memcpy(owners_before, owners, sizeof owners_before);
+}
+
+/* Whether all rows and marks but those of this row are as they were kept. */
+static bool kept_but(size_t row)
+{
+    for (size_t i = 0; i <= EK_LIST_PLACES; i++) {
+        if (i != row &&
+            (rows[i] != rows_before[i] || owners[i] != owners_before[i])) {
+            return false;
+        }
+    }
+    return true;
+}
+
+static bool kept(void)
+{
+    return kept_but(EK_LIST_PLACES + 1);
+}
+
+static int64_t shared_start(uint32_t rack)
+{
+    return ek_shared_start(&walk, rack, 0x30, owners, EK_LIST_PLACES);
+}
+
+static int64_t shared_silence(uint32_t rack)
+{
+    return ek_shared_hear_silence(&walk, rack, rows, EK_LIST_PLACES, owners,
+                                  EK_LIST_PLACES);
+}
+
+static int64_t shared_clash(uint32_t rack)
+{
+    return ek_shared_hear_clash(&walk, rack, rows, EK_LIST_PLACES, owners,
+                                EK_LIST_PLACES);
+}
+
+static int64_t shared_reply(uint32_t rack, uint64_t uid)
+{
+    uint8_t bytes[EK_INVENTORY_ANSWER];
+    put_reply(bytes, uid);
+    return ek_shared_hear_bytes(&walk, rack, bytes, sizeof bytes, rows,
+                                EK_LIST_PLACES, owners, EK_LIST_PLACES);
+}
+
+/* A walk that has listed so many. */
+static void count_so(size_t count)
+{
+    ek_walk_start(&walk, EK_WALK_NO_FAMILY);
+    walk.count = (uint8_t)count;
+}
+
+/* A start makes the record of ek_walk_start of anything, and frees the rack's
+ * marks and no more, also where both racks or one own too many. */
+static void shared_starts(void)
+{
+    struct ek_walk fresh_walk;
+    ek_walk_start(&fresh_walk, 0x30);
+    for (size_t first = 0; first <= EK_LIST_PLACES; first++) {
+        for (uint32_t rack = 0; rack < 2; rack++) {
+            share(first, first < 20 ? 7 : EK_LIST_PLACES - first);
+            owners[EK_LIST_PLACES] = (uint8_t)rack;
+            keep();
+            memset(&walk, 0xFF, sizeof walk);
+            MUST(shared_start(rack) == 0);
+            MUST(memcmp(&walk, &fresh_walk, sizeof walk) == 0);
+            for (size_t i = 0; i < EK_LIST_PLACES; i++) {
+                bool own = owners_before[i] == rack;
+                MUST(owners[i] == (own ? EK_ROW_FREE : owners_before[i]));
+            }
+            MUST(owners[EK_LIST_PLACES] == rack);
+            MUST(memcmp(rows, rows_before, sizeof rows) == 0);
+        }
+    }
+}
+
+/* Every mark at every place; past the last any mark does. */
+static void shared_marks(void)
+{
+    for (size_t i = 0; i <= EK_LIST_PLACES; i++) {
+        for (unsigned mark = 0; mark < 256; mark++) {
+            bool past = i == EK_LIST_PLACES;
+            bool good = mark == 0 || mark == 1 || mark == EK_ROW_FREE || past;
+            share(0, 0);
+            owners[i] = (uint8_t)mark;
+            keep();
+            count_so(mark == 0 && !past);
+            MUST(shared_silence(0) == (good ? 0 : EK_REFUSED_LIST) && kept());
+            count_so(mark == 1 && !past);
+            MUST(shared_clash(1) == (good ? 0 : EK_REFUSED_LIST) && kept());
+            MUST(shared_start(0) == (good ? 0 : EK_REFUSED_LIST));
+            MUST(kept_but(mark == 0 && !past ? i : EK_LIST_PLACES + 1));
+        }
+    }
+}
+
+/* A UID goes into the lowest free row, whatever is free above it, and nothing
+ * else changes. */
+static void shared_rows(void)
+{
+    for (size_t row = 0; row < EK_LIST_PLACES; row++) {
+        for (uint32_t rack = 0; rack < 2; rack++) {
+            size_t own = 0;
+            share(0, 0);
+            for (size_t i = 0; i < EK_LIST_PLACES; i++) {
+                bool taken = i < row || (i > row && i % 3 == 0);
+                owners[i] = taken ? (uint8_t)(i % 2) : EK_ROW_FREE;
+                own += owners[i] == rack;
+            }
+            keep();
+            count_so(own);
+            MUST(shared_silence(rack) == 0 && walk.slot == 1 && kept());
+            MUST(shared_clash(rack) == 0 && walk.marks[0] == 1u << 1 && kept());
+            MUST(shared_reply(rack, 0x10) == 0 && kept()); /* not of slot 2 */
+            MUST(walk.marks[0] == (1u << 1 | 1u << 2) && walk.count == own);
+            MUST(shared_reply(rack, 0x13) == 0 && kept_but(row));
+            MUST(rows[row] == 0x13 && owners[row] == rack);
+            MUST(walk.count == own + 1 && walk.slot == 4);
+        }
+    }
+}
+
+/* Full with the most rows of a rack, or with no row free; the ending alone
+ * changes. */
+static void shared_full(void)
+{
+    for (uint32_t rack = 0; rack < 2; rack++) {
+        struct ek_walk before;
+        size_t most = EK_RACK_ROWS_MAX;
+        share(rack == 0 ? most - 1 : 0, rack == 1 ? most - 1 : 0);
+        count_so(most - 1);
+        MUST(shared_reply(rack, 0x10) == 0 && rows[most - 1] == 0x10);
+        MUST(walk.count == most && walk.ending == EK_WALK_RUNNING);
+        MUST(shared_silence(rack) == 0 && shared_clash(rack) == 0);
+        keep();
+        before = walk;
+        before.ending = EK_WALK_FULL;
+        MUST(shared_reply(rack, 0x23) == 0 && kept());
+        MUST(memcmp(&walk, &before, sizeof walk) == 0);
+        MUST(ask() == EK_SEND_NOTHING);
+
+        /* The other rack has the most: 24 are left, and no more. */
+        size_t rest = EK_LIST_PLACES - most;
+        share(rack == 0 ? rest - 1 : most, rack == 0 ? most : rest - 1);
+        count_so(rest - 1);
+        MUST(shared_reply(rack, 0x10) == 0 && walk.count == rest);
+        MUST(rows[EK_LIST_PLACES - 1] == 0x10);
+        MUST(owners[EK_LIST_PLACES - 1] == rack);
+        keep();
+        before = walk;
+        before.ending = EK_WALK_FULL;
+        MUST(shared_reply(rack, 0x21) == 0 && kept());
+        MUST(memcmp(&walk, &before, sizeof walk) == 0);
+    }
+}
+
+/* Every share of both racks, and every count. */
+static void shared_shares(void)
+{
+    for (size_t first = 0; first <= EK_LIST_PLACES; first++) {
+        for (size_t second = 0; first + second <= EK_LIST_PLACES; second++) {
+            bool fit = first <= EK_RACK_ROWS_MAX && second <= EK_RACK_ROWS_MAX;
+            share(first, second);
+            keep();
+            count_so(first);
+            MUST(shared_silence(0) == (fit ? 0 : EK_REFUSED_WALK));
+            count_so(second);
+            MUST(shared_silence(1) == (fit ? 0 : EK_REFUSED_WALK));
+            for (size_t count = 0; count <= EK_LIST_PLACES; count++) {
+                bool right = fit && count == first;
+                count_so(count);
+                MUST((shared_clash(0) == 0) == right);
+                right = fit && count == second;
+                count_so(count);
+                MUST((shared_clash(1) == 0) == right);
+            }
+            MUST(kept());
+        }
+    }
+}
+
+/* With the other rack's rows in the way, the record goes as that of a walk with
+ * a list for itself, and the rack's rows have its UIDs. */
+static void shared_as_unshared(void)
+{
+    unsigned seed = 5;
+    for (unsigned n = 0; n < 200; n++) {
+        struct ek_walk alone;
+        ek_walk_start(&alone, EK_WALK_NO_FAMILY);
+        alone.rounds = (uint16_t)(n % 4 == 0 ? EK_WALK_ROUNDS_MAX - 3 : 1);
+        share(0, n % 24);
+        while (alone.ending == EK_WALK_RUNNING) {
+            uint64_t digit = (uint64_t)alone.slot << (4 * alone.level);
+            struct ek_walk shared = alone;
+            seed = seed * 1103515245 + 12345;
+            unsigned what = alone.count == EK_RACK_ROWS_MAX ? 0
+                                                            : seed >> 16 & 7;
+            walk = alone;
+            MUST((what == 1   ? clash()
+                  : what == 2 ? reply(alone.mask | digit)
+                              : silence()) == 0);
+            alone = walk;
+            walk = shared;
+            MUST((what == 1   ? shared_clash(0)
+                  : what == 2 ? shared_reply(0, shared.mask | digit)
+                              : shared_silence(0)) == 0);
+            MUST(memcmp(&walk, &alone, sizeof walk) == 0);
+        }
+        size_t found_so_far = 0;
+        for (size_t i = 0; i < EK_LIST_PLACES; i++) {
+            MUST(owners[i] == (i < n % 24                ? 1
+                               : i < n % 24 + alone.count ? 0
+                                                          : EK_ROW_FREE));
+            if (owners[i] == 0) {
+                MUST(rows[i] == list[found_so_far]);
+                found_so_far++;
+            }
+        }
+        MUST(found_so_far == alone.count);
+    }
+}
+
+/* 13, 5 to start; 13, 10, 6, 5, 10 to hear: all faults at once, then one fewer
+ * each time. All 32 bits of a rack count. */
+static void orders_of_shared(void)
+{
+    static const int64_t order[] = {EK_REFUSED_RACK,  EK_REFUSED_WALK,
+                                    EK_REFUSED_ENDED, EK_REFUSED_LIST,
+                                    EK_REFUSED_LIST,  EK_REFUSED_LIST,
+                                    EK_REFUSED_WALK,  EK_REFUSED_WALK,
+                                    0};
+    static const uint32_t none[] = {2, 254, 255, 256, 257, 65536, UINT32_MAX};
+    const uint8_t bytes[1] = {0};
+    for (int mended = 0; mended < 9; mended++) {
+        uint32_t rack = mended < 1 ? 2 : 0;
+        size_t places = EK_LIST_PLACES - (mended < 4);
+        size_t marks = EK_LIST_PLACES - (mended < 5);
+        for (int call = 0; call < 3; call++) {
+            struct ek_walk before;
+            share(EK_RACK_ROWS_MAX + (mended < 7), 3);
+            owners[EK_LIST_PLACES - 1] = mended < 6 ? 2 : EK_ROW_FREE;
+            count_so(EK_RACK_ROWS_MAX + (mended < 7) - (mended < 8));
+            walk.slot = mended < 2 ? 16 : 0;
+            walk.ending = mended < 3 ? EK_WALK_OVERRUN : EK_WALK_RUNNING;
+            before = walk;
+            keep();
+            MUST((call == 0   ? ek_shared_hear_silence(&walk, rack, rows,
+                                                       places, owners, marks)
+                  : call == 1 ? ek_shared_hear_clash(&walk, rack, rows, places,
+                                                     owners, marks)
+                              : ek_shared_hear_bytes(&walk, rack, bytes, 1,
+                                                     rows, places, owners,
+                                                     marks)) == order[mended]);
+            MUST(kept());
+            MUST((memcmp(&walk, &before, sizeof walk) == 0) == (mended < 8));
+        }
+    }
+    for (int mended = 0; mended < 4; mended++) {
+        struct ek_walk before;
+        share(3, 3);
+        owners[EK_LIST_PLACES - 1] = mended < 3 ? 2 : EK_ROW_FREE;
+        memset(&walk, 0xFF, sizeof walk);
+        before = walk;
+        keep();
+        MUST(ek_shared_start(&walk, mended < 1 ? 2 : 0, 0x30, owners,
+                             EK_LIST_PLACES - (mended < 2)) ==
+             (mended < 1   ? EK_REFUSED_RACK
+              : mended < 3 ? EK_REFUSED_LIST
+                           : 0));
+        MUST(kept() == (mended < 3));
+        MUST((memcmp(&walk, &before, sizeof walk) == 0) == (mended < 3));
+    }
+    share(0, 0);
+    count_so(0);
+    for (size_t i = 0; i < sizeof none / sizeof *none; i++) {
+        MUST(shared_start(none[i]) == EK_REFUSED_RACK);
+        MUST(shared_silence(none[i]) == EK_REFUSED_RACK);
+        MUST(shared_clash(none[i]) == EK_REFUSED_RACK);
+        MUST(shared_reply(none[i], 0x10) == EK_REFUSED_RACK);
+    }
+    MUST(ek_shared_start(&walk, 0, 0x30, owners, EK_LIST_PLACES - 1) ==
+         EK_REFUSED_LIST);
+    MUST(ek_shared_hear_silence(&walk, 0, rows, EK_LIST_PLACES - 1, owners,
+                                EK_LIST_PLACES) == EK_REFUSED_LIST);
+    MUST(ek_shared_hear_silence(&walk, 0, rows, EK_LIST_PLACES, owners,
+                                EK_LIST_PLACES - 1) == EK_REFUSED_LIST);
+    MUST(ek_shared_start(&walk, 0, 0x30, NULL, 0) == EK_REFUSED_LIST);
+    MUST(ek_shared_hear_silence(&walk, 0, NULL, 0, NULL, 0) ==
+         EK_REFUSED_LIST);
+    MUST(ek_shared_hear_bytes(&walk, 0, NULL, 0, rows, EK_LIST_PLACES, owners,
+                              EK_LIST_PLACES) == 0);
+    MUST(walk.marks[0] == 1); /* no bytes are a clash */
 }
 
 /* ---- the reader, with the card above */
@@ -1237,6 +1558,13 @@ int main(void)
     full();
     overrun();
     orders_of_walk();
+    shared_starts();
+    shared_marks();
+    shared_rows();
+    shared_full();
+    shared_shares();
+    shared_as_unshared();
+    orders_of_shared();
     requests();
     readings();
     longest();

@@ -29,6 +29,7 @@ static uint8_t coding;
 static uint8_t track[EK_TRACK_MAX];
 static struct ek_walk walk;
 static uint64_t list[EK_LIST_PLACES];
+static uint8_t owners[EK_LIST_PLACES];
 static uint8_t request[EK_REQUEST_MAX];
 static struct ek_request asked;
 static uint8_t blocks[sizeof memory];
@@ -122,6 +123,29 @@ static void walk_hear_bytes(void)
     back = ek_walk_hear_bytes(&walk, frame, length, list, EK_LIST_PLACES);
 }
 
+static void shared_start(void)
+{
+    back = ek_shared_start(&walk, 0, EK_WALK_NO_FAMILY, owners, sizeof owners);
+}
+
+static void shared_hear_silence(void)
+{
+    back = ek_shared_hear_silence(&walk, 0, list, EK_LIST_PLACES, owners,
+                                  sizeof owners);
+}
+
+static void shared_hear_clash(void)
+{
+    back = ek_shared_hear_clash(&walk, 0, list, EK_LIST_PLACES, owners,
+                                sizeof owners);
+}
+
+static void shared_hear_bytes(void)
+{
+    back = ek_shared_hear_bytes(&walk, 0, frame, length, list, EK_LIST_PLACES,
+                                owners, sizeof owners);
+}
+
 static void make(void)
 {
     back = ek_make(asked, memory, EK_CARD_SIZE_MAX, frame, sizeof frame);
@@ -212,27 +236,39 @@ static void card(void)
 }
 
 /* A clash in the slot of each level down to twins, a clean reply, silence. */
-static void walks(void)
+static void walk_down(void (*silence)(void), void (*clash)(void),
+                      void (*bytes)(void))
 {
-    measure(walk_start);
     while (walk.ending == EK_WALK_RUNNING) {
         measure(walk_ask);
         if (walk.slot == 0) {
-            measure(walk_hear_clash);
+            measure(clash);
         } else if (walk.slot == 1) {
             memset(frame, 0, sizeof frame);
             ek_put_number(frame + EK_INVENTORY_UID, 8,
                           walk.mask + (UINT64_C(1) << (4 * walk.level)));
             back = ek_seal(frame, sizeof frame, EK_INVENTORY_CHECK);
             length = (size_t)back;
-            measure(walk_hear_bytes);
+            measure(bytes);
         } else {
-            measure(walk_hear_silence);
+            measure(silence);
         }
     }
     if (walk.ending != EK_WALK_TWINS || walk.count != 15) {
         exit(1);
     }
+}
+
+/* With a list for itself, and over one where the other rack owns many rows. */
+static void walks(void)
+{
+    measure(walk_start);
+    walk_down(walk_hear_silence, walk_hear_clash, walk_hear_bytes);
+    memset(owners, EK_ROW_FREE, sizeof owners);
+    memset(owners, 0, 24);
+    memset(owners + 24, 1, EK_RACK_ROWS_MAX);
+    measure(shared_start);
+    walk_down(shared_hear_silence, shared_hear_clash, shared_hear_bytes);
 }
 
 /* Every command in every mode, with Option and without, made; and what the

@@ -7,6 +7,7 @@ pub mod Unique
 mod Records
 mod Numbers
 mod WalkTold
+mod SharedTold
 pub mod UniqueWalked
 pub mod UniqueAnswers
 pub mod ErrorShown

@@ -10,6 +10,7 @@ use Rattle.play.specs.declared.Served.{Served}
 use Rattle.record.specs.Record.{writeLeaves}
 use Rattle.walk.specs.declared.Heard.{Heard}
 use Rattle.walk.specs.Hear.{Hearing}
+use Rattle.walk.specs.Shared.{Starting, SharedHearing}
 use Rattle.board.specs.declared.in_place.Told.{Told}
 use Rattle.board.specs.Calls.{backOf}
 
@@ -27,3 +28,15 @@ pub record Tells (h : Hearing) (r : Told) (list : List ℕ) : Type 0 where
   pub walk : r .walk ≡ h .walk
   pub answer : r .answer ≡ refused (h .number)
   pub list-left : list ≡ h .list
+
+-- what the functions promise that start and hear by value over a shared list
+pub record TellsStart (s : Starting) (r : Told) (owners : List ℕ) : Type 0 where
+  pub walk : r .walk ≡ s .walk
+  pub answer : r .answer ≡ refused (s .number)
+  pub owners-left : owners ≡ s .owners
+
+pub record TellsShared (h : SharedHearing) (r : Told) (rows owners : List ℕ) : Type 0 where
+  pub walk : r .walk ≡ h .walk
+  pub answer : r .answer ≡ refused (h .number)
+  pub rows-left : rows ≡ h .rows
+  pub owners-left : owners ≡ h .owners

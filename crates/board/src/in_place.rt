@@ -28,7 +28,7 @@ pub(crate) fn minus(number: u8) -> i64
     0 - (number as i64)
 }
 
-fn tell(heard: Heard) -> Told
+pub(crate) fn tell(heard: Heard) -> Told
     ensures { λ r. ⌜ r ≡ toldOf heard ⌝ }
 {
     let next = heard.walk;

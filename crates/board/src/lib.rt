@@ -3,6 +3,7 @@
 // include/espenknoten.h declares them.
 pub mod answers;
 pub mod in_place;
+pub mod shared;
 
 ghost use mathlib.Core.Path.{_≡_};
 ghost use Prim.Native.Nat.{_≤_};
@@ -21,7 +22,7 @@ use play::Served;
 // The version, as the file VERSION and the header have it.
 const MAJOR: u32 = 2;
 
-const MINOR: u32 = 3;
+const MINOR: u32 = 4;
 
 const PATCH: u32 = 0;
 

@@ -1,0 +1,2 @@
+mod NoBytesCode
+mod NoBytes
