@@ -19,18 +19,20 @@ use Rattle.coil.specs.Decoder.{DecodesAnswer}
 use Rattle.board.specs.Calls.{Gives, frameCall, markCall, offCall}
 use Rattle.walk.specs.Record.{started}
 use Rattle.walk.specs.Hear.{hearing}
+use Rattle.walk.specs.Shared.{starting, sharedHearing}
 use Rattle.walk.specs.declared.Kind.the-variants.{Bytes, Clash, Silence}
 use Rattle.board.specs.Version.{version}
 use Rattle.board.specs.Answers.{ReadsByValue}
 use Rattle.reader.specs.Request.{Makes}
 use Rattle.reader.specs.Reading.{reading}
 use Rattle.board.specs.Walked.{AsksInPlace, HearsInPlace}
+use Rattle.board.specs.Shared.{StartsInPlace, HearsSharedInPlace}
 use Rattle.walk.specs.Ask.{asking}
 use Rattle.frames.proofs.Unique.{seal-unique}
 use Rattle.tracks.proofs.Unique.{code-unique, decode-unique}
 use Rattle.coil.proofs.Unique.{coil-code-unique, coil-decode-unique}
 use Rattle.board.proofs.Unique.{gives-unique}
-use Rattle.board.proofs.UniqueWalked.{hear-in-place-unique, ask-in-place-unique}
+use Rattle.board.proofs.UniqueWalked.{hear-in-place-unique, ask-in-place-unique, start-shared-in-place-unique, hear-shared-in-place-unique}
 use Rattle.board.proofs.UniqueAnswers.{read-by-value-unique}
 use Rattle.reader.proofs.Unique.{make-unique}
 use Rattle.board.proofs.ek_version as ek-version
@@ -48,6 +50,10 @@ use Rattle.board.proofs.in_place.ek_walk_start as ek-walk-start
 use Rattle.board.proofs.in_place.ek_walk_hear_silence as ek-walk-hear-silence
 use Rattle.board.proofs.in_place.ek_walk_hear_clash as ek-walk-hear-clash
 use Rattle.board.proofs.in_place.ek_walk_hear_bytes as ek-walk-hear-bytes
+use Rattle.board.proofs.shared.ek_shared_start as ek-shared-start
+use Rattle.board.proofs.shared.ek_shared_hear_silence as ek-shared-hear-silence
+use Rattle.board.proofs.shared.ek_shared_hear_clash as ek-shared-hear-clash
+use Rattle.board.proofs.shared.ek_shared_hear_bytes as ek-shared-hear-bytes
 use Rattle.board.proofs.in_place.ek_walk_ask as ek-walk-ask
 use Rattle.board.proofs.answers.ek_make as ek-make
 use Rattle.board.proofs.answers.ek_read as ek-read
@@ -153,6 +159,36 @@ module _ {M : Type 1} (𝓤 : URA M) (H : Heap 𝓤) (A : Atoms 𝓤) (mem : Mem
   ek-walk-ask-contract =
       kept 𝓤 H A ek-walk-ask.ended _ _ _ refl (λ κs a. (tt, id⊢ 𝓤 _)) (λ κs a g r e. id⊢ 𝓤 _)
       (λ κs a r s x y p q. let u : _ = ask-in-place-unique _ r s _ _ p q in (u .0, λ i. (tt, (u .1 i, tt))))
+
+  ek-shared-start-contract : Contract 𝓤 H A ek-shared-start.ended (ek-shared-start.spec 𝓤 H A mem run) (ek-shared-start.clauses 𝓤 H A mem run)
+      (λ κs a r e. StartsInPlace (starting (now (a .0)) (a .1 .0) (a .1 .1 .0) (now (a .1 .1 .1 .0))) r (now (e .0)) (now (e .1 .1 .1 .0)))
+  ek-shared-start-contract =
+      kept 𝓤 H A ek-shared-start.ended _ _ _ refl (λ κs a. (tt, id⊢ 𝓤 _)) (λ κs a g r e. id⊢ 𝓤 _)
+      (λ κs a r s x y p q. let u : _ = start-shared-in-place-unique _ r s _ _ _ _ p q in (u .0, λ i. (u .1 i, (tt, (tt, (u .2 i, tt))))))
+
+  ek-shared-hear-silence-contract : Contract 𝓤 H A ek-shared-hear-silence.ended (ek-shared-hear-silence.spec 𝓤 H A mem run) (ek-shared-hear-silence.clauses 𝓤 H A mem run)
+      (λ κs a r e.
+      HearsSharedInPlace (sharedHearing (now (a .0)) (a .1 .0) Silence [] (now (a .1 .1 .0)) (now (a .1 .1 .1 .0)))
+      r (now (e .0)) (now (e .1 .1 .0)) (now (e .1 .1 .1 .0)))
+  ek-shared-hear-silence-contract =
+      kept 𝓤 H A ek-shared-hear-silence.ended _ _ _ refl (λ κs a. (tt, id⊢ 𝓤 _)) (λ κs a g r e. id⊢ 𝓤 _)
+      (λ κs a r s x y p q. let u : _ = hear-shared-in-place-unique _ r s _ _ _ _ _ _ p q in (u .0, λ i. (u .1 i, (tt, (u .2 i, (u .3 i, tt))))))
+
+  ek-shared-hear-clash-contract : Contract 𝓤 H A ek-shared-hear-clash.ended (ek-shared-hear-clash.spec 𝓤 H A mem run) (ek-shared-hear-clash.clauses 𝓤 H A mem run)
+      (λ κs a r e.
+      HearsSharedInPlace (sharedHearing (now (a .0)) (a .1 .0) Clash [] (now (a .1 .1 .0)) (now (a .1 .1 .1 .0)))
+      r (now (e .0)) (now (e .1 .1 .0)) (now (e .1 .1 .1 .0)))
+  ek-shared-hear-clash-contract =
+      kept 𝓤 H A ek-shared-hear-clash.ended _ _ _ refl (λ κs a. (tt, id⊢ 𝓤 _)) (λ κs a g r e. id⊢ 𝓤 _)
+      (λ κs a r s x y p q. let u : _ = hear-shared-in-place-unique _ r s _ _ _ _ _ _ p q in (u .0, λ i. (u .1 i, (tt, (u .2 i, (u .3 i, tt))))))
+
+  ek-shared-hear-bytes-contract : Contract 𝓤 H A ek-shared-hear-bytes.ended (ek-shared-hear-bytes.spec 𝓤 H A mem run) (ek-shared-hear-bytes.clauses 𝓤 H A mem run)
+      (λ κs a r e.
+      HearsSharedInPlace (sharedHearing (now (a .0)) (a .1 .0) Bytes (now (a .1 .1 .0)) (now (a .1 .1 .1 .0)) (now (a .1 .1 .1 .1 .0)))
+      r (now (e .0)) (now (e .1 .1 .1 .0)) (now (e .1 .1 .1 .1 .0)))
+  ek-shared-hear-bytes-contract =
+      kept 𝓤 H A ek-shared-hear-bytes.ended _ _ _ refl (λ κs a. (tt, id⊢ 𝓤 _)) (λ κs a g r e. id⊢ 𝓤 _)
+      (λ κs a r s x y p q. let u : _ = hear-shared-in-place-unique _ r s _ _ _ _ _ _ p q in (u .0, λ i. (u .1 i, (tt, (tt, (u .2 i, (u .3 i, tt)))))))
 
   ek-make-contract : Contract 𝓤 H A ek-make.ended (ek-make.spec 𝓤 H A mem run) (ek-make.clauses 𝓤 H A mem run)
       (λ κs a r e. Makes (a .0) (now (a .1 .0)) (now (a .1 .1 .0)) r (now (e .1 .1 .0)))

@@ -85,6 +85,8 @@ use Rattle.walk.specs.declared.Kind.{Kind}
 use Rattle.walk.specs.declared.Slot.the-variants.{Clean}
 use Rattle.walk.specs.Record.{maskLength, started, isRunning, complete}
 use Rattle.walk.specs.Hear.{judged}
+use Rattle.walk.specs.Shared as shared
+use Rattle.walk.specs.Shared.{startRefusal, starting, SharedHearing, sharedHearing}
 use Rattle.walk.specs.Examples.{Walks}
 use Rattle.walk.proofs.Examples.{walks}
 use Rattle.field.specs.Field.{Arrival, Obeys, arrives, listens, answers, answering}
@@ -104,6 +106,16 @@ use Rattle.field.proofs.TableOne.{modes-heard, none-asked, all-asked, family-as
 use Rattle.field.proofs.Calling.{family-requested}
 use Rattle.field.proofs.Families.{families}
 use Rattle.field.proofs.Examples.{field-of-three}
+use Rattle.racks.specs.Calls.{OneList, Shareable, owned, rowsOf, Call, listAfterCall}
+use Rattle.racks.specs.OneCall.{FullExactly, fullExactly, TheRow, theRow, Frees, startFrees, Keeps, otherKeeps, refusedAsBefore, ServedAfterStart, servedAfterStart, Alike, SameHeard, freeRowsAlone}
+use Rattle.racks.specs.Rack.{Happening, ownEvents, playedOn, startedOn, DemandOn, rackDemand3}
+use Rattle.racks.specs.Replies.{RackWalk, freshOn, happensAll, HoldsOn, anyRepliesOn, TwoRacks, starts, turned, Move, turnedAll, BothGoOn, bothGoOn, bothGoOnLater}
+use Rattle.racks.specs.Examples.{MayEndFull, oneRowEach, SharedNumbers}
+use Rattle.racks.proofs.Demand.{demand-on-a-rack}
+use Rattle.racks.proofs.OneCall.{full-exactly, the-row, start-frees}
+use Rattle.racks.proofs.Other.{other-keeps, refused-as-before, served-after-start, free-rows-alone}
+use Rattle.racks.proofs.Replies.{any-replies-on, both-go-on, both-go-on-later}
+use Rattle.racks.proofs.Examples.{may-end-full, one-row-each, shared-numbers}
 use Rattle.chorus.specs.Air.{heardAs, coilAir, heardBy, numberHeard, differentRows, coilArrives}
 use Rattle.chorus.specs.Different.{differentAnswers, uidsOf, EachOnce}
 use Rattle.chorus.specs.Demand.{DsfidsFit, onCoilPlayed, coilDemand3, TwinsMean, coilTwins}
@@ -413,6 +425,101 @@ a-request-for-a-family : (q : Calling) (asked : ℕ) (c : Card) (memory locks fo
     → asked < 256
     → frameEvent c (calling q asked) memory locks found ≡ cond (answers asked c) (tookPart q c memory locks found) (passedOver c memory locks found)
 a-request-for-a-family = family-requested
+
+-- ---- Two racks, one list (02)
+
+-- Demand 3 for a rack. Any cards that obey, any family; any rows and marks that number 5 accepts (`Shareable`), the other rack owning 40 rows at the most; whatever walk stood
+-- there. The rack is started, and then any events happen: slots of its own, played over its cards, and any calls with another number, of the other rack or of none, starts
+-- and hearings over any record with any bytes, refused or not. After 16 × 481 of its own slots its walk has ended, never in overrun. Where at most 24 cards answer it ends
+-- complete if no two share a UID, else in twins; complete, at most 40 answer, no two share a UID, the rows that it owns hold each once and the round count is demand 3's; twins,
+-- two that answer share a UID; full, more than 24 answer. Every card keeps all but its sequence and its held answer. All this is `DemandOn`, crates/racks/specs/Rack.antt.
+demand-three-for-a-rack : (rack family : ℕ) (w : Walk) (tags : List Tag) (l : OneList) (room : List ℕ) (events : List (Happening (Unit {0}) rack))
+    → rack ≤ 1 → AllObey tags → Shareable l → owned (1 - rack) l ≤ 40 → 14 ≤ length room → 16 * 481 ≤ ownEvents events
+    → DemandOn rack family tags (playedOn rack events (startedOn rack w family l room tags))
+unfolding rackDemand3
+demand-three-for-a-rack = demand-on-a-rack
+
+-- It may end full from 25 on, alike UIDs or not: 25 different cards, and 27 of which two are alike, each with 40 rows of the other rack. Both are full with 24 listed.
+a-rack-may-end-full : MayEndFull
+a-rack-may-end-full = may-end-full
+
+-- A hearing that is served ends full exactly if a clean UID arrives and the rack has 40 rows or no row is free.
+full-on-a-rack : (w : Walk) (rack : ℕ) (kind : Kind) (bytes : List ℕ) (l : OneList) → shared.hearRefusal w rack (length (l .rows)) (l .owners) ≡ 0
+    → FullExactly rack (judged w kind bytes) l (sharedHearing w rack kind bytes (l .rows) (l .owners))
+unfolding fullExactly
+full-on-a-rack = full-exactly
+
+-- The row that a UID takes was free, no lower one was, and nothing else of the list changes; where the call is refused, no clean UID arrives or there is no row for it, nothing does.
+the-row-of-a-uid : (w : Walk) (rack : ℕ) (kind : Kind) (bytes : List ℕ) (l : OneList)
+    → TheRow w rack kind bytes l (sharedHearing w rack kind bytes (l .rows) (l .owners))
+unfolding theRow
+the-row-of-a-uid = the-row
+
+-- A start that is served makes the walk fresh and each of the rack's marks free, and leaves every other mark, those from 64 on too.
+starting-a-rack : (w : Walk) (rack family : ℕ) (owners : List ℕ) → startRefusal rack owners ≡ 0 → Frees rack family owners (starting w rack family owners)
+unfolding startFrees
+starting-a-rack = start-frees
+
+-- Whatever a call with another number does, a rack keeps its rows and their marks and gets none: its list stays.
+the-other-rack-keeps : (rack s : ℕ) (call : Call) (l : OneList) → s ≤ 1 → (s ≡ rack → ⊥) → Keeps s l (listAfterCall rack call l)
+unfolding otherKeeps
+the-other-rack-keeps = other-keeps
+
+-- After a hearing each call for the other rack is refused exactly as before.
+refused-as-before-a-hearing : (w : Walk) (rack : ℕ) (kind : Kind) (bytes : List ℕ) (l : OneList) (s : ℕ) → (s ≡ rack → ⊥)
+    → let h : SharedHearing = sharedHearing w rack kind bytes (l .rows) (l .owners) in
+    ((v : Walk) → shared.hearRefusal v s (length (h .rows)) (h .owners) ≡ shared.hearRefusal v s (length (l .rows)) (l .owners))
+    × (startRefusal s (h .owners) ≡ startRefusal s (l .owners))
+unfolding refusedAsBefore
+refused-as-before-a-hearing = refused-as-before
+
+-- After a start none is refused that was not before, and one that got 10 because the started rack owned over 40 rows is now served.
+served-after-a-start : (w : Walk) (rack family : ℕ) (l : OneList) (s : ℕ) (v : Walk) → s ≤ 1 → rack ≤ 1 → (s ≡ rack → ⊥)
+    → ServedAfterStart v s (length (l .rows)) l (starting w rack family (l .owners) .owners)
+unfolding servedAfterStart
+served-after-a-start = served-after-start
+
+-- Apart from the row chosen a hearing depends on the other rack only through the number of free rows: over two lists that number 5 accepts, with as many free rows and as many
+-- own, it gives the same number and the same next walk, for every record and all bytes, and the rack's rows hold each UID as often, where they did before.
+only-the-free-rows : (w : Walk) (rack : ℕ) (kind : Kind) (bytes : List ℕ) (l l′ : OneList) → Alike rack l l′
+    → SameHeard rack l l′ (sharedHearing w rack kind bytes (l .rows) (l .owners)) (sharedHearing w rack kind bytes (l′ .rows) (l′ .owners))
+unfolding freeRowsAlone
+only-the-free-rows = free-rows-alone
+
+-- Whatever a rack hears from its start on, true or false, and whatever calls for the other come in between: no UID stands twice among its rows, its hearing gives 0 while it runs
+-- and 6 after its ending, and it has ended after 16 × 481 of its slots.
+a-rack-over-any-replies : (rack family : ℕ) (p : RackWalk) (events : List (Happening Arrival rack)) → rack ≤ 1 → Shareable (p .list) → owned (1 - rack) (p .list) ≤ 40
+    → HoldsOn rack (ownEvents events) (happensAll rack events (freshOn rack family p))
+unfolding anyRepliesOn
+a-rack-over-any-replies = any-replies-on
+
+-- Once both racks have been started, over any list that number 5 accepts, and each goes on with its own record, started anew as often as one likes: no start is refused, and no
+-- hearing but after that walk's own ending. So no call of one rack makes 10 for the other.
+both-racks-go-on : (family family′ : ℕ) (p : TwoRacks) (moves : List Move) → Shareable (p .list)
+    → BothGoOn (turnedAll moves (turned 1 (starts family′) (turned 0 (starts family) p)))
+unfolding bothGoOn
+both-racks-go-on = both-go-on
+
+-- And with any turns between the two starts, in either order, where the rack that is started later owned 40 rows at the most.
+one-rack-joins-later : (family family′ : ℕ) (p : TwoRacks) (between moves : List Move) → Shareable (p .list)
+    → (owned 1 (p .list) ≤ 40 → BothGoOn (turnedAll moves (turned 1 (starts family′) (turnedAll between (turned 0 (starts family) p)))))
+    × (owned 0 (p .list) ≤ 40 → BothGoOn (turnedAll moves (turned 0 (starts family) (turnedAll between (turned 1 (starts family′) p)))))
+unfolding bothGoOnLater
+one-rack-joins-later = both-go-on-later
+
+-- The same UID heard by both takes a row in each.
+a-row-in-each : (family family′ : ℕ) (kind : Kind) (bytes rows : List ℕ) (u : ℕ) → 64 ≤ length rows
+    → judged (started family) kind bytes ≡ Clean u → judged (started family′) kind bytes ≡ Clean u
+    → let h : SharedHearing = sharedHearing (started family) 0 kind bytes rows (replicate 64 255) in
+    let k : SharedHearing = sharedHearing (started family′) 1 kind bytes (h .rows) (h .owners) in
+    let after : OneList = record { rows = k .rows; owners = k .owners } in
+    (rowsOf 0 after ≡ u ∷ []) × (rowsOf 1 after ≡ u ∷ [])
+unfolding oneRowEach
+a-row-in-each = one-row-each
+
+-- The numbers that the calls tell, in 02's own numbers and order; and a call that is refused leaves walk, rows and marks.
+numbers-of-a-shared-list : SharedNumbers
+numbers-of-a-shared-list = shared-numbers
 
 -- ---- Answers on the coil (02, replies straight from the coil)
 

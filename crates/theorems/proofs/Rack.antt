@@ -12,6 +12,7 @@ use contract.Monad.{Fun}
 use denote.Ref.{now}
 use Rattle.walk.specs.Ask.{Asks, asking}
 use Rattle.walk.specs.Hear.{Hears, hearing}
+use Rattle.walk.specs.Shared.{starting, Starts, sharedHearing, HearsShared}
 use Rattle.walk.specs.Record.{isAccepted, started}
 use Rattle.reader.specs.Request.{Makes}
 use Rattle.reader.specs.Reading.{Reads, reading}
@@ -20,7 +21,7 @@ use Rattle.row.specs.Row.{HearsRow, cardsOf, deskAfter}
 use Rattle.lines.specs.Lines.{freshLines, readFrom}
 use Rattle.report.specs.Bench.{Prints}
 use Rattle.picture.specs.Drawn.{Pictures}
-use Rattle.walk.proofs.Unique.{ask-unique, hear-unique}
+use Rattle.walk.proofs.Unique.{ask-unique, hear-unique, start-shared-unique, hear-shared-unique}
 use Rattle.reader.proofs.Unique.{make-unique}
 use Rattle.reader.proofs.UniqueRead.{read-unique}
 use Rattle.row.proofs.Unique.{listen-row-unique}
@@ -28,6 +29,8 @@ use Rattle.report.proofs.Unique.{prints-unique}
 use Rattle.picture.proofs.Unique.{pictures-unique}
 use Rattle.walk.proofs.Walk.ask as walk-ask
 use Rattle.walk.proofs.Walk.hear as walk-hear
+use Rattle.walk.proofs.Walk.start_shared as walk-start-shared
+use Rattle.walk.proofs.Walk.hear_shared as walk-hear-shared
 use Rattle.walk.proofs.Walk.start as walk-start
 use Rattle.walk.proofs.Walk.is_accepted as walk-is-accepted
 use Rattle.reader.proofs.Request.make as request-make
@@ -60,6 +63,20 @@ module _ {M : Type 1} (𝓤 : URA M) (H : Heap 𝓤) (A : Atoms 𝓤) (mem : Mem
   walk-hear-contract =
       kept 𝓤 H A walk-hear.ended _ _ _ refl (λ κs a. (tt, id⊢ 𝓤 _)) (λ κs a g r e. id⊢ 𝓤 _)
       (λ κs a r s x y p q. let u : _ = hear-unique _ r s _ _ p q in (u .0, λ i. (tt, (tt, (tt, (u .1 i, tt))))))
+
+  walk-start-shared-contract : Contract 𝓤 H A walk-start-shared.ended (walk-start-shared.spec 𝓤 H A mem run) (walk-start-shared.clauses 𝓤 H A mem run)
+      (λ κs a r e. Starts (starting (a .0) (a .1 .0) (a .1 .1 .0) (now (a .1 .1 .1 .0))) r (now (e .1 .1 .1 .0)))
+  walk-start-shared-contract =
+      kept 𝓤 H A walk-start-shared.ended _ _ _ refl (λ κs a. (tt, id⊢ 𝓤 _)) (λ κs a g r e. id⊢ 𝓤 _)
+      (λ κs a r s x y p q. let u : _ = start-shared-unique _ r s _ _ p q in (u .0, λ i. (tt, (tt, (tt, (u .1 i, tt))))))
+
+  walk-hear-shared-contract : Contract 𝓤 H A walk-hear-shared.ended (walk-hear-shared.spec 𝓤 H A mem run) (walk-hear-shared.clauses 𝓤 H A mem run)
+      (λ κs a r e.
+      HearsShared (sharedHearing (a .0) (a .1 .0) (a .1 .1 .0) (now (a .1 .1 .1 .0)) (now (a .1 .1 .1 .1 .0)) (now (a .1 .1 .1 .1 .1 .0)))
+      r (now (e .1 .1 .1 .1 .0)) (now (e .1 .1 .1 .1 .1 .0)))
+  walk-hear-shared-contract =
+      kept 𝓤 H A walk-hear-shared.ended _ _ _ refl (λ κs a. (tt, id⊢ 𝓤 _)) (λ κs a g r e. id⊢ 𝓤 _)
+      (λ κs a r s x y p q. let u : _ = hear-shared-unique _ r s _ _ _ _ p q in (u .0, λ i. (tt, (tt, (tt, (tt, (u .1 i, (u .2 i, tt))))))))
 
   walk-start-contract : Contract 𝓤 H A walk-start.ended (walk-start.spec 𝓤 H A mem run) (walk-start.clauses 𝓤 H A mem run)
       (λ κs a r e. r ≡ started (a .0))
