@@ -3,6 +3,7 @@
 pub mod card;
 pub mod coil;
 pub mod reader;
+pub mod shared;
 pub mod walk;
 
 use std::marker::PhantomData;

@@ -4,6 +4,7 @@
 mod card;
 pub mod coil;
 pub mod reader;
+mod shared;
 mod walk;
 
 use std::ops::Range;
@@ -29,6 +30,7 @@ pub struct Calls {
     decoding: Area,
     card: card::Areas,
     walk: walk::Areas,
+    shared: shared::Areas,
     reader: reader::Areas,
     coil: coil::Areas,
 }
@@ -47,6 +49,7 @@ impl Calls {
             decoding: Area::new(1100),
             card: card::Areas::new(),
             walk: walk::Areas::new(),
+            shared: shared::Areas::new(),
             reader: reader::Areas::new(),
             coil: coil::Areas::new(),
         }

@@ -14,6 +14,7 @@ mod null_buffers;
 mod random_frames;
 mod reader;
 mod sealing;
+mod shared;
 mod short_tracks;
 mod small_frames;
 mod soundness;
@@ -47,6 +48,8 @@ pub const GROUPS: &[(&str, Group)] = &[
     ("coil, overlays", coil::overlays::run),
     ("fields on the coil", fields::coil::run),
     ("checks, every entry", checks::entries::run),
+    ("shared list", shared::run),
+    ("shared list, two racks' fields", shared::fields::run),
 ];
 
 /// Bytes that tracks are made of, and some that almost are.

@@ -54,6 +54,7 @@ fn run() -> Result<bool, String> {
     let (checks, tracks) = (vectors::checks(&folder)?, vectors::tracks(&folder)?);
     let (cards, walks) = (vectors::cards(&folder)?, vectors::walk::walks(&folder)?);
     let (readers, coils) = (vectors::reader::readers(&folder)?, vectors::coil::coils(&folder)?);
+    let shared = vectors::shared::shared(&folder)?;
 
     println!("seed: {seed}");
     let mut calls = Calls::new(seed);
@@ -70,6 +71,8 @@ fn run() -> Result<bool, String> {
     calls.tally.end_group("vectors of the reader");
     published::run_coils(&mut calls, &coils);
     calls.tally.end_group("vectors of the coil");
+    published::run_shared(&mut calls, &shared);
+    calls.tally.end_group("vectors of the shared list");
     for (name, group) in GROUPS {
         group(&mut calls, &mut random);
         calls.tally.end_group(name);

@@ -3,6 +3,7 @@
 
 mod coil;
 mod reader;
+mod shared;
 mod walk;
 
 use crate::calls::Calls;
@@ -16,6 +17,7 @@ use crate::reference::{Refusal, FRAME_MAX};
 use crate::vectors::{CardStep, CheckCase, Side, TrackCase};
 pub use coil::run_coils;
 pub use reader::run_readers;
+pub use shared::run_shared;
 pub use walk::run_walks;
 
 pub fn run_checks(calls: &mut Calls, cases: &[CheckCase]) {

@@ -1,13 +1,13 @@
 //! The independent implementation: check, sealed frames, coder, decoder, card,
-//! walk, reader, coil, field and bench.
+//! walk, shared list, reader, coil, field and bench.
 //!
 //! Written from the rules page ("Check and byte order", "Pulse tracks", "The
 //! card", "The walk", "Numbers of refused calls", "Bench", "Examples"), the
-//! change requests W1 to W3, Table 1 of ISO/IEC 15693-3, clauses 8.5.2, 8.6.2
-//! and 8.6.4 of ISO/IEC 15693-2 and the C header. It works on sequences of
+//! change requests W1 to W3 and W5, Table 1 of ISO/IEC 15693-3, clauses 8.5.2,
+//! 8.6.2 and 8.6.4 of ISO/IEC 15693-2 and the C header. It works on sequences of
 //! single bits, digits, written digits, intervals and units, keeps what waits
-//! in sets and looks tracks up in a dictionary, so that it shares no way of
-//! working with the library. Clear, not fast.
+//! in sets and a shared list in a map, and looks tracks up in a dictionary, so
+//! that it shares no way of working with the library. Clear, not fast.
 
 pub mod bench;
 pub mod card;
@@ -18,6 +18,7 @@ pub mod decoder;
 pub mod field;
 pub mod reader;
 pub mod record;
+pub mod shared;
 pub mod tails;
 pub mod walk;
 
@@ -42,6 +43,7 @@ pub enum Refusal {
     Walk = 10,
     Answer = 11,
     Coil = 12,
+    Rack = 13,
 }
 
 impl Refusal {

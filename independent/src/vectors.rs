@@ -2,6 +2,7 @@
 
 pub mod coil;
 pub mod reader;
+pub mod shared;
 pub mod walk;
 
 use std::fs;

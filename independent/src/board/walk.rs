@@ -17,10 +17,10 @@ extern "C" {
     fn ek_walk_ask(walk: *const u64, room: *mut u8, length: usize) -> i64;
 }
 
-const PLACE: usize = size_of::<u64>();
+pub const PLACE: usize = size_of::<u64>();
 
 impl Lent<'_> {
-    fn aligned(&self) -> *mut u64 {
+    pub fn aligned(&self) -> *mut u64 {
         let start: *mut u64 = self.start.cast();
         assert!(start.is_aligned() && self.length.is_multiple_of(PLACE));
         start

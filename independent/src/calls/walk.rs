@@ -102,6 +102,6 @@ impl Calls {
     }
 }
 
-fn bytes_of(list: &[u64]) -> Vec<u8> {
+pub fn bytes_of(list: &[u64]) -> Vec<u8> {
     list.iter().flat_map(|uid| uid.to_le_bytes()).collect()
 }

@@ -1,12 +1,12 @@
 //! The archive's walk over the archive's cards, with nothing but bytes between
 //! them, against what sets and counts of the UIDs say.
 
+pub mod built;
 pub mod coil;
+pub mod expected;
+pub mod families;
 
 mod air;
-mod built;
-mod expected;
-mod families;
 
 use crate::calls::Calls;
 use crate::crowds::{shuffle, with_digit, CROWDS};

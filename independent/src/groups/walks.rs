@@ -1,10 +1,10 @@
 //! Walks from their start, through fields and false replies, and from any
 //! record that is accepted, with calls that are refused among them.
 
-mod kinds;
-mod records;
-mod refusals;
-mod replies;
+pub mod kinds;
+pub mod records;
+pub mod refusals;
+pub mod replies;
 
 use std::collections::BTreeSet;
 

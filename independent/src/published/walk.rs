@@ -107,7 +107,7 @@ impl Reader {
 }
 
 /// What the cards say, by the reference and by the board.
-fn replies(calls: &mut Calls, cards: &mut [Tag], sent: Sent) -> Vec<Vec<u8>> {
+pub fn replies(calls: &mut Calls, cards: &mut [Tag], sent: Sent) -> Vec<Vec<u8>> {
     let event = match sent {
         Sent::Request(request) => Event::Frame(request),
         _ => Event::Mark,
@@ -119,7 +119,7 @@ fn replies(calls: &mut Calls, cards: &mut [Tag], sent: Sent) -> Vec<Vec<u8>> {
     cards.iter_mut().filter_map(reply).collect()
 }
 
-fn tag(card: &Card) -> Tag {
+pub fn tag(card: &Card) -> Tag {
     let mut record = vec![0; record::RECORD];
     record::write(card, &mut record);
     Tag { record, memory: vec![0], locks: vec![0] }

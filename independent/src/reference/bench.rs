@@ -69,8 +69,13 @@ pub struct Verdict {
 impl Verdict {
     /// All of the UIDs answer, and nothing else does.
     pub fn of(uids: &[u64]) -> Verdict {
+        Verdict::within(PLACES, uids)
+    }
+
+    /// So too, over a list with places for so many.
+    pub fn within(places: usize, uids: &[u64]) -> Verdict {
         let mut verdict = Verdict { ending: Ending::Complete, rounds: 0, list: Vec::new() };
-        if let Err(ending) = verdict.round(uids, 0) {
+        if let Err(ending) = verdict.round(places, uids, 0) {
             verdict.ending = ending;
         }
         verdict
@@ -78,7 +83,7 @@ impl Verdict {
 
     /// A round among the UIDs that have its mask, then those that its clashes
     /// ask for. The mask itself is of no matter any more.
-    fn round(&mut self, uids: &[u64], level: usize) -> Result<(), Ending> {
+    fn round(&mut self, places: usize, uids: &[u64], level: usize) -> Result<(), Ending> {
         if self.rounds == ROUNDS {
             return Err(Ending::Overrun);
         }
@@ -89,13 +94,13 @@ impl Verdict {
                 uids.iter().copied().filter(|uid| uid >> (4 * level) & 15 == slot).collect();
             match in_slot[..] {
                 [] => {}
-                [_] if self.list.len() == PLACES => return Err(Ending::Full),
+                [_] if self.list.len() == places => return Err(Ending::Full),
                 [one] => self.list.push(one),
                 _ if level == LEVELS - 1 => return Err(Ending::Twins),
                 _ => clashes.push(in_slot),
             }
         }
-        clashes.iter().try_for_each(|answering| self.round(answering, level + 1))
+        clashes.iter().try_for_each(|answering| self.round(places, answering, level + 1))
     }
 
     fn text(&self) -> String {

@@ -50,7 +50,8 @@ pub fn together(replies: &[Vec<u8>]) -> Heard {
     }
 }
 
-fn reply(card: &mut Card, sent: &Sent) -> Option<Vec<u8>> {
+/// What the card says to it.
+pub fn reply(card: &mut Card, sent: &Sent) -> Option<Vec<u8>> {
     let (mut memory, mut locks) = ([0], [0]);
     let said = match sent {
         Sent::Request(request) => frame(card, request, &mut memory, &mut locks, ROOM),

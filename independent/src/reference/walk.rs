@@ -81,26 +81,38 @@ impl Walk {
         if list.len() < PLACES {
             return Err(Refusal::List);
         }
+        let place = self.listed;
+        self.hear_slot(heard, |uid| match list[..PLACES].get_mut(place) {
+            Some(free) => {
+                *free = uid;
+                true
+            }
+            None => false,
+        });
+        Ok(())
+    }
+
+    /// A slot of a running walk. The list takes a clean UID, or says that it has
+    /// no place for it.
+    pub fn hear_slot(&mut self, heard: &Heard, takes: impl FnOnce(u64) -> bool) {
         match self.meaning(heard) {
             Meaning::Clash(_) if self.mask.len() == LEVELS - 1 => {
                 self.ending = Some(Ending::Twins);
-                return Ok(());
-            }
-            Meaning::Clean(_) if self.listed == PLACES => {
-                self.ending = Some(Ending::Full);
-                return Ok(());
+                return;
             }
             Meaning::Clash(_) => {
                 self.waiting[self.mask.len()].insert(self.slot);
             }
             Meaning::Clean(uid) => {
-                list[self.listed] = uid;
+                if !takes(uid) {
+                    self.ending = Some(Ending::Full);
+                    return;
+                }
                 self.listed += 1;
             }
             Meaning::Silence => {}
         }
         self.go_on();
-        Ok(())
     }
 
     /// Number 8, after 10.

@@ -38,7 +38,7 @@ pub fn walks(folder: &Path) -> Result<Vec<(String, WalkStep)>, String> {
     })
 }
 
-fn family(text: &str) -> Result<u16, String> {
+pub fn family(text: &str) -> Result<u16, String> {
     match text {
         "none" => Ok(u16::MAX),
         afi => byte(afi).map(u16::from),
@@ -52,7 +52,7 @@ fn sending(text: &str) -> Result<Sent, String> {
     }
 }
 
-fn hearing(text: &str) -> Result<Heard, String> {
+pub fn hearing(text: &str) -> Result<Heard, String> {
     match text {
         "silence" => Ok(Heard::Silence),
         "clash" => Ok(Heard::Clash),

@@ -53,7 +53,7 @@ impl BuiltCard {
     }
 
     /// The answer to a frame, or to a slot mark if there is none.
-    fn reply(&mut self, frame: Option<&mut [u8]>) -> Result<Option<Vec<u8>>, String> {
+    pub fn reply(&mut self, frame: Option<&mut [u8]>) -> Result<Option<Vec<u8>>, String> {
         let mut answer = [0; ANSWER];
         let (record, room) = (Lent::of(&mut self.record), Lent::of(&mut answer));
         let (memory, locks) = (Lent::of(&mut self.memory), Lent::of(&mut self.locks));

@@ -16,7 +16,7 @@ use crate::reference::walk::{Ending, PLACES};
 pub const COMPLETE: u8 = 1;
 pub const TWINS: u8 = 2;
 pub const FULL: u8 = 3;
-const OVERRUN: u8 = 4;
+pub const OVERRUN: u8 = 4;
 
 const KINDS: [&str; 18] = [
     "complete, nobody answers",

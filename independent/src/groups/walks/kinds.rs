@@ -11,7 +11,7 @@ use crate::reference::Refusal;
 use crate::tally::Tally;
 
 /// Why bytes are a clash.
-const CLASHES: [&str; 6] =
+pub const CLASHES: [&str; 6] =
     ["told", "not 12 bytes", "wrong check", "wrong flags", "other mask", "other slot"];
 
 const ENDED: [&str; 13] = [

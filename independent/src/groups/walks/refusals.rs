@@ -110,7 +110,7 @@ fn shorten(random: &mut Random, cause: &str, list: &mut Vec<u64>) {
 }
 
 /// Breaks this clause and no other.
-fn break_clause(random: &mut Random, clause: &str, record: &mut [u8]) {
+pub fn break_clause(random: &mut Random, clause: &str, record: &mut [u8]) {
     let high = random.byte();
     let far = 1u16 << (9 + random.below(7));
     match clause {

@@ -49,12 +49,7 @@ pub fn any(
 }
 
 fn truly(random: &mut Random, walk: &Walk, uids: &[u64]) -> (&'static str, Heard) {
-    let fits = |uid: &&u64| {
-        let level = walk.mask.len();
-        digit(**uid, level) == u64::from(walk.slot)
-            && (0..level).all(|place| digit(**uid, place) == u64::from(walk.mask[place]))
-    };
-    let answering: Vec<&u64> = uids.iter().filter(fits).collect();
+    let answering: Vec<&u64> = uids.iter().filter(|uid| fits(walk, **uid)).collect();
     match answering[..] {
         [] => ("true silence", Heard::Silence),
         [uid] => ("true reply", Heard::Bytes(reply(random, *uid))),
@@ -62,7 +57,7 @@ fn truly(random: &mut Random, walk: &Walk, uids: &[u64]) -> (&'static str, Heard
     }
 }
 
-fn falsely(random: &mut Random, walk: &Walk) -> (&'static str, Heard) {
+pub fn falsely(random: &mut Random, walk: &Walk) -> (&'static str, Heard) {
     let name = random.pick(&FALSE);
     let level = walk.mask.len();
     let uid = fitting(random, walk);
@@ -119,12 +114,18 @@ fn falsely(random: &mut Random, walk: &Walk) -> (&'static str, Heard) {
     (name, Heard::Bytes(bytes))
 }
 
+/// Whether the UID fits mask and slot.
+pub fn fits(walk: &Walk, uid: u64) -> bool {
+    let mut digits = walk.mask.iter().chain([&walk.slot]).enumerate();
+    digits.all(|(place, &asked)| digit(uid, place) == u64::from(asked))
+}
+
 /// A UID that fits mask and slot.
-fn fitting(random: &mut Random, walk: &Walk) -> u64 {
+pub fn fitting(random: &mut Random, walk: &Walk) -> u64 {
     let digits = walk.mask.iter().chain([&walk.slot]).enumerate();
     digits.fold(random.number(), |uid, (place, &digit)| with_digit(uid, place, digit.into()))
 }
 
-fn reply(random: &mut Random, uid: u64) -> Vec<u8> {
+pub fn reply(random: &mut Random, uid: u64) -> Vec<u8> {
     sealed(&[&[0x00, random.byte()], &uid.to_le_bytes()[..]].concat())
 }
