@@ -8,7 +8,7 @@
 #include <stddef.h>
 
 #define ROUNDS 51
-#define ROWS_MAX 24
+#define ROWS_MAX 32
 /* The shortest turn at the clock: a coarse clock or one interrupt must not
  * weigh much in it. */
 #define TURN_NS 1e6
