@@ -6,17 +6,17 @@ use mathlib.Core.List.{List}
 use Prim.Native.Nat.{ℕ, _+_, _≤_, _<_}
 use native.Mathlib.Decide.{ℕ-discrete}
 use native.Mathlib.Omega.{arith}
-use borrow.Author.Tests.{leb-true, ltb-true, le-leb}
-use lib.Dec.{leb, ltb, eqb}
+use borrow.Author.Tests.{ltb-true, le-leb}
+use lib.Dec.{ltb, eqb}
 use lib.ListN.{length, getD, set, length-set}
 use Rattle.walk.specs.declared.Walk.{Walk}
 use Rattle.walk.specs.declared.Kind.{Kind}
 use Rattle.walk.specs.declared.Slot.{Slot}
 use Rattle.walk.specs.declared.Slot.the-variants.{Silent, Clashed, Clean}
-use Rattle.walk.specs.Record.{places, levelsOf, isAccepted, isRunning, started}
+use Rattle.walk.specs.Record.{levelsOf, isAccepted, isRunning, started}
 use Rattle.walk.specs.Hear.{judged, endsAtOnce, listNoted, listAfter}
 use Rattle.walk.specs.Shared.{rowsWith, listOf, lowestFree, isRack, ownersFit, mostRows, startRefusal, hearRefusal, freed, starting, hasRow, ownersAfter, sharedHearing}
-use Rattle.walk.proofs.Owners.{lowest-free-below, lowest-free-is, taken-own, taken-other, taken-fit, freed-own, freed-other, freed-fit}
+use Rattle.walk.proofs.Owners.{owners-fit-of, lowest-free-below, lowest-free-is, taken-own, taken-other, taken-fit, freed-own, freed-other, freed-fit}
 use Rattle.walk.proofs.Rows.{list-taken-other, list-freed-other}
 use Rattle.walk.proofs.SharedWays.{start-served-of, start-refusal-none, shared-started, start-refused, SharedServed, shared-served-of, shared-heard, shared-refused}
 use Rattle.racks.specs.Calls.{OneList, Call, starts, hears, listAfterCall}
@@ -43,8 +43,7 @@ pub data After (rack : ℕ) (rows owners rows′ owners′ : List ℕ) : Type 0 
 -- ---- the ways
 
 pub fits-length : (owners : List ℕ) → ownersFit owners ≡ true → 64 ≤ length owners
-unfolding ownersFit places
-fits-length owners e = leb-true 64 (length owners) (and-eq-true-iff (leb 64 (length owners)) _ .0 e .0)
+fits-length owners e = owners-fit-of owners e .0
 
 -- a clash leaves the list, marked or ended
 pub clash-leaves : (b : Bool) (rows : List ℕ) → cond (eqb (cond b 0 2) 0) rows rows ≡ rows
