@@ -1,4 +1,4 @@
--- Demand 3: "the number of tails of 1 to 15 digits, counted from the low end, that two or more of them share".
+-- Demand 3: "the number of tails of 1 to 15 digits, counted from the low end, that two or more of them share"; 02, W6: "tails of 1 to 13 digits".
 use Prim.Native.Nat.{ℕ, _%_, _^_}
 use mathlib.Core.Bool.{Bool, cond}
 use mathlib.Core.List.{List, [], _∷_}
@@ -23,6 +23,6 @@ sharedOf us j = tot (16 ^ j) 0 (λ m. one (isShared us j m))
 unfoldable pub sharedTailsTo : ℕ → List ℕ → ℕ
 sharedTailsTo k us = tot k 1 (sharedOf us)
 
--- "tails of 1 to 15 digits"
+-- "tails of 1 to 13 digits"
 unfoldable pub sharedTails : List ℕ → ℕ
-sharedTails us = sharedTailsTo 15 us
+sharedTails us = sharedTailsTo 13 us
