@@ -13,18 +13,18 @@ use Rattle.walk.specs.declared.Kind.{Kind}
 use Rattle.walk.specs.declared.Slot.{Slot}
 use Rattle.walk.specs.declared.Slot.the-variants.{Silent, Clashed, Clean}
 use Rattle.walk.specs.Marks.{levels, deepest, withMark, withoutMark, lowest}
-use Rattle.walk.specs.Record.{levelsOf, mostRounds, maskLength, isAccepted}
+use Rattle.walk.specs.Record.{levelsOf, mostRounds, maskLength, wholeMask, openedMask, isAccepted}
 use Rattle.walk.specs.Record.{remade, ended, counted, marked, atNextSlot, openedAt, opened, noMarks, startedOf, started}
 use Rattle.walk.specs.Hear.{judged, hasPlace, endsAtOnce, noted, turned, passed, walkAfter, refusal, Hearing, hearing}
 use Rattle.walk.specs.Shared.{hearRefusal, hasRow, SharedHearing, sharedHearing}
 use Rattle.walk.proofs.Levels.{lowest-is-slot, deepest-none, deepest-set}
 use Rattle.walk.proofs.LevelsStay.{levels-started}
-use Rattle.walk.proofs.Limits.{Accepted, accepted-of-is-accepted, is-accepted-of-accepted, opened-mask-fits}
+use Rattle.walk.proofs.Limits.{halves-whole, Accepted, accepted-of-is-accepted, is-accepted-of-accepted, opened-mask-fits}
 use Rattle.walk.proofs.HearWays.{clash-goes-on, clean-goes-on, place-below}
 use Rattle.walk.proofs.SharedWays.{shared-served-of, row-few}
 
 pub started-facts : (levels family : ℕ) → 1 ≤ levels → Accepted (startedOf levels family)
-unfolding startedOf maskLength mostRounds
+unfolding startedOf wholeMask maskLength mostRounds
 started-facts levels family h =
     let long : length (noMarks levels) ≡ levels = levels-started levels family in
     record {
@@ -52,7 +52,7 @@ by-test false x y p q = q refl
 
 module _ (w : Walk) (a : Accepted w) where
   pub ended-facts : (ending : ℕ) → Accepted (ended ending w)
-  unfolding ended remade
+  unfolding ended remade wholeMask
   ended-facts ending =
       record {
         level = a .level;
@@ -66,7 +66,7 @@ module _ (w : Walk) (a : Accepted w) where
       }
 
   counted-facts : w .count < 64 → Accepted (counted w)
-  unfolding counted remade
+  unfolding counted remade wholeMask
   counted-facts h =
       record {
         level = a .level;
@@ -80,7 +80,7 @@ module _ (w : Walk) (a : Accepted w) where
       }
 
   marked-facts : w .level + 1 < length (w .marks) → Accepted (marked w)
-  unfolding marked remade
+  unfolding marked remade wholeMask
   marked-facts h =
       let m : ℕ = withMark (getD (w .marks) (w .level) 0) (w .slot) in
       let own = deepest-set (w .marks) (w .level) m (w .level + 1) (omega arith) (a .own-level) in
@@ -97,7 +97,7 @@ module _ (w : Walk) (a : Accepted w) where
       }
 
   pub next-slot-facts : w .slot < 15 → Accepted (atNextSlot w)
-  unfolding atNextSlot remade
+  unfolding atNextSlot remade wholeMask
   next-slot-facts h =
       record {
         level = a .level;
@@ -111,7 +111,7 @@ module _ (w : Walk) (a : Accepted w) where
       }
 
   pub opened-facts : (j : ℕ) → deepest (w .marks) ≡ suc j → w .rounds < mostRounds (length (w .marks)) → Accepted (opened w j)
-  unfolding opened openedAt remade
+  unfolding opened openedAt remade wholeMask
   opened-facts j is h =
       let s : ℕ = lowest (getD (w .marks) j 0) in
       let below : suc j < length (w .marks) = rw (← is) (a .last-level) in
@@ -123,7 +123,7 @@ module _ (w : Walk) (a : Accepted w) where
         count = a .count;
         first-round = omega arith;
         last-round = rw same (omega arith);
-        mask = opened-mask-fits (w .mask) j s (lowest-is-slot (getD (w .marks) j 0));
+        mask = rw (halves-whole (openedMask (wholeMask w) j s)) (opened-mask-fits (wholeMask w) j s (lowest-is-slot (getD (w .marks) j 0)));
         own-level = omega (arith, own);
         last-level = omega (arith, own, same, below);
       }

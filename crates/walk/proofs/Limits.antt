@@ -1,17 +1,23 @@
--- What an accepted record is, test by test, both ways; and how far an opened mask reaches. By the tests of the definition.
+-- What an accepted record is, test by test, both ways; how far an opened mask reaches, and what mask each change leaves. By the tests of the definition.
 -- Assumes nothing.
-use mathlib.Core.Path.{_≡_, sym}
+use mathlib.Core.Path.{_≡_, refl, sym}
 use mathlib.Core.Bool.{Bool, true, _&&_, and-assoc, and-eq-true-iff}
 use Prim.Native.Nat.{ℕ, _+_, _*_, _%_, _^_, _≤_, _<_}
 use native.Mathlib.Nat.{mod-lt, mul-le-mul-right}
 use native.Mathlib.Omega.{arith}
 use borrow.Author.Tests.{leb-true, ltb-true, le-leb, lt-ltb}
 use lib.Dec.{leb, ltb}
-use lib.ListN.{length}
+use lib.ListN.{length, getD}
 use lib.Pow.{pow-pos, pow-mono, pow-add}
 use Rattle.walk.specs.declared.Walk.{Walk}
-use Rattle.walk.specs.Marks.{deepest}
-use Rattle.walk.specs.Record.{places, levelsOf, mostRounds, maskLength, marksFit, isAccepted, openedMask}
+use Rattle.walk.specs.Marks.{lowest, deepest}
+use Rattle.walk.specs.Record.{wholeMask, lowHalf, highHalf, places, levelsOf, mostRounds, maskLength, marksFit, isAccepted, openedMask}
+use Rattle.walk.specs.Record.{remade, ended, counted, marked, atNextSlot, openedAt, opened, startedOf}
+
+-- a mask is its low and its high half
+pub halves-whole : (m : ℕ) → lowHalf m + highHalf m * 2 ^ 32 ≡ m
+unfolding lowHalf highHalf
+halves-whole m = omega arith
 
 pub record Accepted (w : Walk) : Type 0 where
   pub level : w .level < length (w .marks)
@@ -19,7 +25,7 @@ pub record Accepted (w : Walk) : Type 0 where
   pub count : w .count ≤ 64
   pub first-round : 1 ≤ w .rounds
   pub last-round : w .rounds ≤ mostRounds (length (w .marks))
-  pub mask : w .mask < 2 ^ maskLength (w .level)
+  pub mask : wholeMask w < 2 ^ maskLength (w .level)
   pub own-level : deepest (w .marks) ≤ w .level + 1
   pub last-level : deepest (w .marks) < length (w .marks)
 
@@ -31,7 +37,7 @@ accepted-of-is-accepted w e =
     let t3 = and-eq-true-iff (leb (w .count) 64) _ .0 (t2 .1) in
     let t4 = and-eq-true-iff (leb 1 (w .rounds)) _ .0 (t3 .1) in
     let t5 = and-eq-true-iff (leb (w .rounds) (mostRounds (length (w .marks)))) _ .0 (t4 .1) in
-    let t6 = and-eq-true-iff (ltb (w .mask) (2 ^ maskLength (w .level))) _ .0 (t5 .1) in
+    let t6 = and-eq-true-iff (ltb (wholeMask w) (2 ^ maskLength (w .level))) _ .0 (t5 .1) in
     let t7 = and-eq-true-iff (leb (deepest (w .marks)) (w .level + 1)) (ltb (deepest (w .marks)) (length (w .marks))) .0 (t6 .1) in
     record {
       level = ltb-true (w .level) (length (w .marks)) (t1 .0);
@@ -39,7 +45,7 @@ accepted-of-is-accepted w e =
       count = leb-true (w .count) 64 (t3 .0);
       first-round = leb-true 1 (w .rounds) (t4 .0);
       last-round = leb-true (w .rounds) (mostRounds (length (w .marks))) (t5 .0);
-      mask = ltb-true (w .mask) (2 ^ maskLength (w .level)) (t6 .0);
+      mask = ltb-true (wholeMask w) (2 ^ maskLength (w .level)) (t6 .0);
       own-level = leb-true (deepest (w .marks)) (w .level + 1) (t7 .0);
       last-level = ltb-true (deepest (w .marks)) (length (w .marks)) (t7 .1);
     }
@@ -49,7 +55,7 @@ abbrev pub numbersFit : Walk → Bool
 numbersFit w = leb (w .slot) 15 && leb (w .count) 64 && leb 1 (w .rounds) && leb (w .rounds) (mostRounds (length (w .marks)))
 
 pub is-accepted-by-tests : (w : Walk) → w .level < length (w .marks)
-    → isAccepted w ≡ (numbersFit w && (ltb (w .mask) (2 ^ maskLength (w .level)) && marksFit (w .marks) (w .level)))
+    → isAccepted w ≡ (numbersFit w && (ltb (wholeMask w) (2 ^ maskLength (w .level)) && marksFit (w .marks) (w .level)))
 unfolding isAccepted levelsOf places
 is-accepted-by-tests w h = rw (lt-ltb (w .level) (length (w .marks)) h) (sym (simp and-assoc))
 
@@ -62,7 +68,7 @@ is-accepted-of-accepted w a =
       le-leb (w .count) 64 (a .count),
       le-leb 1 (w .rounds) (a .first-round),
       le-leb (w .rounds) (mostRounds (length (w .marks))) (a .last-round),
-      lt-ltb (w .mask) (2 ^ maskLength (w .level)) (a .mask),
+      lt-ltb (wholeMask w) (2 ^ maskLength (w .level)) (a .mask),
       le-leb (deepest (w .marks)) (w .level + 1) (a .own-level),
       lt-ltb (deepest (w .marks)) (length (w .marks)) (a .last-level),
     )
@@ -96,3 +102,29 @@ unfolding openedMask maskLength
 opened-mask-fits mask j s h =
     let longer : 4 * (j + 1) ≡ 4 + 4 * j = omega arith in
     rw (longer, pow-add 2 4 (4 * j)) (digit-fits mask (2 ^ (4 * j)) s (pow-pos (4 * j)) h)
+
+-- ---- the mask of the record that a change leaves
+
+pub mask-ended : (ending : ℕ) (w : Walk) → wholeMask (ended ending w) ≡ wholeMask w
+unfolding ended remade wholeMask
+mask-ended ending w = refl
+
+pub mask-counted : (w : Walk) → wholeMask (counted w) ≡ wholeMask w
+unfolding counted remade wholeMask
+mask-counted w = refl
+
+pub mask-marked : (w : Walk) → wholeMask (marked w) ≡ wholeMask w
+unfolding marked remade wholeMask
+mask-marked w = refl
+
+pub mask-next : (w : Walk) → wholeMask (atNextSlot w) ≡ wholeMask w
+unfolding atNextSlot remade wholeMask
+mask-next w = refl
+
+pub mask-opened : (w : Walk) (j : ℕ) → wholeMask (opened w j) ≡ openedMask (wholeMask w) j (lowest (getD (w .marks) j 0))
+unfolding opened openedAt remade wholeMask
+mask-opened w j = halves-whole (openedMask (wholeMask w) j (lowest (getD (w .marks) j 0)))
+
+pub mask-started : (levels family : ℕ) → wholeMask (startedOf levels family) ≡ 0
+unfolding startedOf wholeMask
+mask-started levels family = refl

@@ -21,7 +21,7 @@ use Rattle.frames.proofs.Ways.{puts-served, seals-served, placed-check}
 use Rattle.frames.proofs.Unique.{put-field-unique, seal-unique}
 use Rattle.slots.specs.Fits.{maskBytes}
 use Rattle.walk.specs.declared.Walk.{Walk}
-use Rattle.walk.specs.Record.{maskLength, hasFamily}
+use Rattle.walk.specs.Record.{maskLength, wholeMask, hasFamily}
 use Rattle.walk.specs.Ask.{requestHead, requestBody, request}
 
 -- bytes at the start leave the buffer its length
@@ -81,7 +81,7 @@ pub length-body : (w : Walk) → length (requestBody w) ≡ length (requestHead 
 unfolding requestBody
 length-body w =
     let n : ℕ = maskBytes (maskLength (w .level)) in
-    length-append (requestHead w) (maskLength (w .level) ∷ fieldBytes n (w .mask)) ∙ rw (length-field-bytes n (w .mask)) (omega arith)
+    length-append (requestHead w) (maskLength (w .level) ∷ fieldBytes n (wholeMask w)) ∙ rw (length-field-bytes n (wholeMask w)) (omega arith)
 
 pub length-request : (w : Walk) → length (request w) ≡ length (requestHead w) + 3 + maskBytes (maskLength (w .level))
 unfolding request
@@ -115,20 +115,20 @@ unfolding sealed
 over-check s e = rw (take-over s e) (over-over s (checkBytes s) e)
 
 pub puts-body : (w : Walk) (e : List ℕ) {at bytes : ℕ} {first second : List ℕ} {r : ℤ} → Puts (requestHead w) e at first
-    → bytes ≡ maskBytes (4 * w .level) → PutsField (set first at (4 * w .level)) (at + 1) bytes (w .mask) r second → w .level < 16 → 14 ≤ length e
+    → bytes ≡ maskBytes (4 * w .level) → PutsField (set first at (4 * w .level)) (at + 1) bytes (wholeMask w) r second → w .level < 16 → 14 ≤ length e
     → Puts (requestBody w) e (at + 1 + bytes) second
 unfolding requestBody maskLength
 puts-body w e {at} {bytes} {first} {second} head is field h k =
     let s : List ℕ = requestHead w in
-    let v : List ℕ = fieldBytes bytes (w .mask) in
-    let n : length v ≡ bytes = length-field-bytes bytes (w .mask) in
+    let v : List ℕ = fieldBytes bytes (wholeMask w) in
+    let n : length v ≡ bytes = length-field-bytes bytes (wholeMask w) in
     let short : length s ≤ 3 = length-head-most w in
     let few : bytes ≤ 8 = rw is (mask-bytes-most (w .level) h) in
     let place : at ≡ length s = head .count in
     let room : length (set first at (4 * w .level)) ≡ length e =
     length-set first at (4 * w .level) ∙ ap length (head .leaves) ∙ length-over s e (omega arith) in
     let left : second ≡ over (s ++ 4 * w .level ∷ v) e =
-    put-field-unique field (puts-served (set first at (4 * w .level)) (at + 1) bytes (w .mask) (omega arith)) .1
+    put-field-unique field (puts-served (set first at (4 * w .level)) (at + 1) bytes (wholeMask w) (omega arith)) .1
     ∙ rw (head .leaves, place) (over-rest s v e (4 * w .level) (omega arith)) in
     record { count = rw (← is) (omega (arith, length-append s (4 * w .level ∷ v))); leaves = left ∙ rw is }
 

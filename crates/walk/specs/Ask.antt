@@ -13,15 +13,15 @@ use Rattle.walk.specs.declared.Walk.{Walk}
 use Rattle.walk.specs.declared.Send.{Send}
 use Rattle.walk.specs.declared.Send.the-variants.{Nothing, Mark, Request}
 use Rattle.walk.specs.declared.Asked.{Asked}
-use Rattle.walk.specs.Record.{maskLength, isRunning, hasFamily, isAccepted}
+use Rattle.walk.specs.Record.{maskLength, wholeMask, isRunning, hasFamily, isAccepted}
 
 -- "flags 06 (16 with a family), 01, the family if any"
 unfoldable pub requestHead : Walk → List ℕ
 requestHead w = cond (hasFamily w) (0x16 ∷ 0x01 ∷ w .family ∷ []) (0x06 ∷ 0x01 ∷ [])
 
--- "mask length 4k with k from 0 to 15, the mask with zero padding"
+-- "mask length 4k with k from 0 to 15, the mask with zero padding"; a walk of fourteen levels has k from 0 to 13
 unfoldable pub requestBody : Walk → List ℕ
-requestBody w = requestHead w ++ maskLength (w .level) ∷ fieldBytes (maskBytes (maskLength (w .level))) (w .mask)
+requestBody w = requestHead w ++ maskLength (w .level) ∷ fieldBytes (maskBytes (maskLength (w .level))) (wholeMask w)
 
 -- "check"
 unfoldable pub request : Walk → List ℕ

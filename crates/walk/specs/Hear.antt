@@ -1,5 +1,5 @@
 -- 01, The walk: what a slot makes of the walk and of its list.
-use Prim.Native.Nat.{ℕ, zero, suc, _+_}
+use Prim.Native.Nat.{ℕ, zero, suc, _+_, _/_, _^_}
 use mathlib.Core.Bool.{Bool, cond, _&&_}
 use mathlib.Core.List.{List}
 use mathlib.Core.Path.{_≡_}
@@ -15,7 +15,7 @@ use Rattle.walk.specs.declared.Slot.{Slot}
 use Rattle.walk.specs.declared.Slot.the-variants.{Silent, Clashed, Clean}
 use Rattle.walk.specs.declared.Heard.{Heard}
 use Rattle.walk.specs.Marks.{deepest}
-use Rattle.walk.specs.Record.{places, mostRounds, levelsOf, maskLength, running, complete, twins, full, overrun, isRunning, isAccepted, ended, counted, marked, atNextSlot, opened}
+use Rattle.walk.specs.Record.{places, mostRounds, levelsOf, maskLength, wholeMask, running, complete, twins, full, overrun, isRunning, isAccepted, ended, counted, marked, atNextSlot, opened}
 
 -- ---- what is heard in a slot
 
@@ -23,11 +23,17 @@ use Rattle.walk.specs.Record.{places, mostRounds, levelsOf, maskLength, 
 unfoldable pub uidOf : List ℕ → ℕ
 uidOf bytes = fieldAt bytes 2 8
 
--- "Bytes are clean if they are 12, checked, flags 00, and the UID fits mask and slot"
+-- 02, W6: "All UIDs begin with E0": above its n low digits a UID has what E0 00 00 00 00 00 00 00 has there. Of fourteen digits it is the byte E0; of
+-- sixteen nothing is above them
+unfoldable pub startsE0 : ℕ → ℕ → Bool
+startsE0 n uid = eqb (uid / 16 ^ n) (0xe000000000000000 / 16 ^ n)
+
+-- "Bytes are clean if they are 12, checked, flags 00, and the UID fits mask and slot"; 02, W6: "a clean reply whose UID doesn't start with E0 is a clash"
 unfoldable pub isClean : Walk → List ℕ → Bool
 isClean w bytes =
     eqb (length bytes) 12
-    && (isSealed bytes && (eqb (getD bytes 0 0) 0x00 && fitsSlot (uidOf bytes) (maskLength (w .level)) (w .mask) (w .slot)))
+    && (isSealed bytes && (eqb (getD bytes 0 0) 0x00 && (fitsSlot (uidOf bytes) (maskLength (w .level)) (wholeMask w) (w .slot)
+    && startsE0 (levelsOf w) (uidOf bytes))))
 
 -- "Each is silent, a clash, or bytes."; of bytes that are not clean, "all else is a clash"
 unfoldable pub judged : Walk → Kind → List ℕ → Slot
@@ -41,7 +47,8 @@ judged w Bytes bytes = cond (isClean w bytes) (Clean (uidOf bytes)) Clashed
 unfoldable pub hasPlace : Walk → Bool
 hasPlace w = ltb (w .count) places
 
--- "twins (a clash at k=15, at once), full (a clean UID with 64 listed, at once)": the ending, or 0, where there is a place for a clean UID, or none
+-- "twins (a clash at k=15, at once), full (a clean UID with 64 listed, at once)"; 02, W6: "a clash at mask length 34 is twins", the last level's. The
+-- ending, or 0, where there is a place for a clean UID, or none
 unfoldable pub endsAtOnce : Walk → Slot → Bool → ℕ
 endsAtOnce w Silent place = running
 endsAtOnce w Clashed place = cond (ltb (w .level + 1) (levelsOf w)) running twins
@@ -60,7 +67,7 @@ listNoted Clashed at list = list
 listNoted (Clean uid) at list = set list at uid
 
 -- "After slot 15 the walk opens the lowest unopened clash of the deepest level that has one"; "complete (no clash waits)",
--- "overrun (round 482 would be needed)". The second argument is one more than that level, or 0 where no clash waits
+-- "overrun (round 482 would be needed)": a round above the walk's limit. The second argument is one more than that level, or 0 where no clash waits
 unfoldable pub turned : Walk → ℕ → Walk
 turned w zero = ended complete w
 turned w (suc j) = cond (ltb (w .rounds) (mostRounds (levelsOf w))) (opened w j) (ended overrun w)

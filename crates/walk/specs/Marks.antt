@@ -1,13 +1,13 @@
--- 01, The walk: "A walk keeps, for each of its 16 levels, which slots clashed and wait."
+-- 01, The walk: "A walk keeps, for each of its 16 levels, which slots clashed and wait."; 02, W6: "fourteen levels in place of sixteen".
 use Prim.Native.Nat.{ℕ, zero, suc, _+_, _-_, _/_, _%_, _^_}
 use mathlib.Core.Bool.{Bool, cond}
 use mathlib.Core.List.{List}
 use lib.Dec.{eqb}
 use lib.ListN.{length, getD}
 
--- "its 16 levels", "k from 0 to 15": those of a fresh walk. Any walk has as many levels as marks
+-- "fourteen levels": those of a fresh walk. Any walk has as many levels as marks
 unfoldable pub levels : ℕ
-levels = 16
+levels = 14
 
 -- "which slots clashed and wait": slot s waits where bit s of its level's number is set
 unfoldable pub waits : ℕ → ℕ → Bool

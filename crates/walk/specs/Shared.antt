@@ -132,7 +132,7 @@ pub record SharedHearing : Type 0 where
   pub owners : List ℕ
   pub number : ℕ
 
--- "A UID goes into the lowest free row."; "The round limit stays 481.": that of `walkAfter`
+-- "A UID goes into the lowest free row."; "The round limit stays 481.", and 417 by W6: that of `walkAfter`
 unfoldable pub sharedHearing : Walk → ℕ → Kind → List ℕ → List ℕ → List ℕ → SharedHearing
 sharedHearing w rack kind bytes rows owners =
     let n : ℕ = hearRefusal w rack (length rows) owners in

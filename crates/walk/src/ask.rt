@@ -40,7 +40,7 @@ fn put_body(walk: Walk, room: &mut [u8]) -> usize
     let n = 4 * walk.level;
     let bytes = slots::mask_bytes(n);
     room[at] = n;
-    frames::put_field(room, at + 1, bytes, walk.mask);
+    frames::put_field(room, at + 1, bytes, walk.mask());
     at + 1 + bytes
 }
 
@@ -102,7 +102,7 @@ fn fill(walk: Walk, send: Send, room: &mut [u8])
 }
 
 impl Walk {
-    // What to send. It may be asked often; a request takes 14 bytes of room at the most, and asks for as many.
+    // What to send. It may be asked often; a request has 13 bytes at the most, and asks for room for 14.
     pub fn ask(self, room: &mut [u8]) -> Asked
         ensures { λ r. ⌜ Asks self (asking self (now (room .entry))) r (now (room .exit)) ⌝ }
     {

@@ -4,9 +4,9 @@ ghost use mathlib.Core.Bool.{true};
 ghost use Prim.Native.Nat.{ℕ, _<_};
 ghost use lib.ListN.{length};
 ghost use Rattle.walk.specs.declared.Slot.the-variants.{Clean};
-ghost use Rattle.walk.specs.Marks.{deepest};
+ghost use Rattle.walk.specs.Marks.{levels, deepest};
 ghost use Rattle.walk.specs.Record.{isAccepted};
-ghost use Rattle.walk.specs.Hear.{uidOf, isClean, judged, endsAtOnce, noted, listNoted, passed, walkAfter, listAfter, refusal, hearing, Hears};
+ghost use Rattle.walk.specs.Hear.{uidOf, startsE0, isClean, judged, endsAtOnce, noted, listNoted, passed, walkAfter, listAfter, refusal, hearing, Hears};
 ghost use Rattle.walk.specs.Steps.{After};
 use crate::Heard;
 use crate::Kind;
@@ -22,8 +22,17 @@ fn uid_of(bytes: &[u8]) -> u64
     frames::field(bytes, 2, 8)
 }
 
-fn is_clean(walk: Walk, bytes: &[u8]) -> bool
+// All UIDs begin with E0: that byte is above the digits of a walk's levels.
+fn starts_e0(uid: u64) -> bool
+    ensures { λ r. ⌜ r ≡ startsE0 levels uid ⌝ }
+{
+    slots::high_bits(uid, 56) == 0xE0
+}
+
+// Whether bytes that have this UID are a clean reply.
+fn is_clean(walk: Walk, uid: u64, bytes: &[u8]) -> bool
     requires { ⌜ walk .level < 16 ⌝ }
+    requires { ⌜ uid ≡ uidOf (now bytes) ⌝ }
     ensures { λ r. ⌜ r ≡ isClean walk (now (bytes .entry)) ⌝ }
 {
     if bytes.len() != 12 {
@@ -35,7 +44,7 @@ fn is_clean(walk: Walk, bytes: &[u8]) -> bool
     if bytes[0] != 0x00 {
         return false;
     }
-    slots::fits_slot(uid_of(bytes), 4 * walk.level, walk.mask, walk.slot)
+    slots::fits_slot(uid, 4 * walk.level, walk.mask(), walk.slot) & starts_e0(uid)
 }
 
 pub(crate) fn judge(walk: Walk, kind: Kind, bytes: &[u8]) -> Slot
@@ -46,8 +55,9 @@ pub(crate) fn judge(walk: Walk, kind: Kind, bytes: &[u8]) -> Slot
         Kind::Silence => Slot::Silent,
         Kind::Clash => Slot::Clashed,
         Kind::Bytes => {
-            if is_clean(walk, bytes) {
-                Slot::Clean(uid_of(bytes))
+            let uid = uid_of(bytes);
+            if is_clean(walk, uid, bytes) {
+                Slot::Clean(uid)
             } else {
                 Slot::Clashed
             }

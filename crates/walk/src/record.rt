@@ -2,7 +2,7 @@
 ghost use mathlib.Core.Path.{_≡_};
 ghost use Prim.Native.Nat.{_+_, _^_, _≤_, _<_};
 ghost use lib.ListN.{length};
-ghost use Rattle.walk.specs.Record.{maskLength, marksFit, isAccepted, ended, counted, marked, atNextSlot, openedMask, opened, started};
+ghost use Rattle.walk.specs.Record.{maskLength, wholeMask, lowHalf, highHalf, marksFit, isAccepted, ended, counted, marked, atNextSlot, openedMask, opened, started};
 use crate::LAST_LEVEL;
 use crate::LEVELS;
 use crate::MOST_ROUNDS;
@@ -37,13 +37,26 @@ fn opened_mask(mask: u64, j: u8, s: u8) -> u64
     slots::low_bits(mask, 4 * j) + (s as u64) * unit(j)
 }
 
+fn low_half(mask: u64) -> u32
+    ensures { λ r. ⌜ r ≡ lowHalf mask ⌝ }
+{
+    (mask % 0x1_0000_0000) as u32
+}
+
+fn high_half(mask: u64) -> u32
+    ensures { λ r. ⌜ r ≡ highHalf mask ⌝ }
+{
+    (mask / 0x1_0000_0000) as u32
+}
+
 impl Walk {
     // A fresh walk. Family 0 to 255 is an AFI, all else none.
     pub fn start(family: u16) -> Self
         ensures { λ r. ⌜ r ≡ started family ⌝ }
     {
         Walk {
-            mask: 0,
+            mask_low: 0,
+            mask_high: 0,
             marks: [0; LEVELS],
             rounds: 1,
             family: family,
@@ -52,6 +65,13 @@ impl Walk {
             count: 0,
             ending: 0,
         }
+    }
+
+    // The digits opened so far, of both halves.
+    pub fn mask(self) -> u64
+        ensures { λ r. ⌜ r ≡ wholeMask self ⌝ }
+    {
+        (self.mask_low as u64) + (self.mask_high as u64) * 0x1_0000_0000
     }
 
     // Whether number 10 does not refuse the record.
@@ -68,7 +88,7 @@ impl Walk {
         if !numbers {
             return false;
         }
-        if !slots::is_below(self.mask, 4 * self.level) {
+        if !slots::is_below(self.mask(), 4 * self.level) {
             return false;
         }
         let marks = self.marks;
@@ -122,7 +142,9 @@ impl Walk {
         let s = lowest(m);
         marks[at] = without_mark(m, s);
         self.marks = marks;
-        self.mask = opened_mask(self.mask, j, s);
+        let mask = opened_mask(self.mask(), j, s);
+        self.mask_low = low_half(mask);
+        self.mask_high = high_half(mask);
         self.rounds += 1;
         self.level = j + 1;
         self.slot = 0;

@@ -2,7 +2,6 @@
 use borrow.Author.Needs.{needs}
 use borrow.Author.Tests.{le-ltb, not-true, not-false}
 use mathlib.Core.Path.{_≡_}
-use Prim.Native.Nat.{_<_}
 use mathlib.Core.Bool.{true, false}
 use native.Mathlib.Omega.{arith}
 use lib.ListN.{length}
@@ -26,6 +25,9 @@ returns-2 c =
     let numbers : numbersFit w ≡ false = rw long (not-true _ (c .if2 .taken)) in
     rw (is-accepted-by-tests w (omega (arith, long, c .before .before .before .before .before .if1 .left)), numbers)
 
+mask-requires : tie.Need-mask-requires
+mask-requires c κs = search needs
+
 mul-is-below : tie.Need-mul-is-below
 mul-is-below c = omega arith
 
@@ -35,11 +37,18 @@ is-below-requires c κs = search needs
 returns-3 : tie.Need-returns-3
 unfolding levels maskLength mostRounds
 returns-3 c =
-    let w = c .before .before .before .before .before .before .before .before .before .before .args .self in
-    let long : length (w .marks) ≡ levels = search needs in
-    let numbers : numbersFit w ≡ true = rw long (not-false _ (c .before .before .before .if2 .left)) in
+    let w = c .before .before .before .before .before .before .before .before .before .before .before .args .self in
+    let good = c .before .before .before .before .before .before .before .before .before .before .before .good in
+    let long : length (w .marks) ≡ levels = search (needs, good) in
+    let numbers : numbersFit w ≡ true = rw long (not-false _ (c .before .before .before .before .if2 .left)) in
     let is-below = c .before .is-below in
-    rw (is-accepted-by-tests w (omega (arith, long, c .before .before .before .before .before .before .before .before .if1 .left)), numbers, ← (is-below .ensures), not-true (is-below .result) (c .if3 .taken))
+    rw (
+      is-accepted-by-tests w (omega (arith, long, c .before .before .before .before .before .before .before .before .before .if1 .left)),
+      numbers,
+      ← (c .before .before .before .mask .ensures),
+      ← (is-below .ensures),
+      not-true (is-below .result) (c .if3 .taken),
+    )
 
 marks-fit-requires : tie.Need-marks-fit-requires
 marks-fit-requires c κs = search needs
@@ -47,12 +56,18 @@ marks-fit-requires c κs = search needs
 returns-4 : tie.Need-returns-4
 unfolding levels maskLength mostRounds
 returns-4 c =
-    let w = c .before .before .before .before .before .before .before .before .before .before .before .before .args .self in
-    let good = c .before .before .before .before .before .before .before .before .before .before .before .before .good in
+    let w = c .before .before .before .before .before .before .before .before .before .before .before .before .before .args .self in
+    let good = c .before .before .before .before .before .before .before .before .before .before .before .before .before .good in
     let long : length (w .marks) ≡ levels = search (needs, good) in
-    let numbers : numbersFit w ≡ true = rw long (not-false _ (c .before .before .before .before .before .if2 .left)) in
+    let numbers : numbersFit w ≡ true = rw long (not-false _ (c .before .before .before .before .before .before .if2 .left)) in
     let is-below = c .before .before .before .is-below in
-    rw (is-accepted-by-tests w (omega (arith, long, c .before .before .before .before .before .before .before .before .before .before .if1 .left)), numbers, ← (is-below .ensures), not-false (is-below .result) (c .before .before .if3 .left))
+    rw (
+      is-accepted-by-tests w (omega (arith, long, c .before .before .before .before .before .before .before .before .before .before .before .if1 .left)),
+      numbers,
+      ← (c .before .before .before .before .before .mask .ensures),
+      ← (is-below .ensures),
+      not-false (is-below .result) (c .before .before .if3 .left),
+    )
     (c .marks-fit .ensures)
 
 pub is-accepted-spec : {M : Type 1} → statement M
@@ -61,6 +76,7 @@ is-accepted-spec =
     (tie.spec
     returns
     returns-2
+    mask-requires
     mul-is-below
     is-below-requires
     returns-3

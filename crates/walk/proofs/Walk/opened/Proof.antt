@@ -5,7 +5,7 @@ use native.Mathlib.Omega.{arith}
 use mathlib.Core.Path.{_≡_}
 use lib.ListN.{length}
 use Rattle.walk.specs.Marks.{levels}
-use Rattle.walk.specs.Record.{remade, openedAt, opened}
+use Rattle.walk.specs.Record.{wholeMask, remade, openedAt, opened}
 use Rattle.walk.proofs.Levels.{lowest-is-slot}
 use Rattle.walk.proofs.Walk.opened.Statement.{statement}
 use Rattle.walk.proofs.Walk.opened.Tie as tie
@@ -34,11 +34,20 @@ array-write-marks c =
     let long : length (c .before .before .before .args .self .marks) ≡ levels = search needs in
     omega (arith, long)
 
+mask-requires : tie.Need-mask-requires
+mask-requires c κs = search needs
+
 opened-mask-requires : tie.Need-opened-mask-requires
 unfolding levels
 opened-mask-requires c κs =
-    let long : length (c .before .before .before .args .self .marks) ≡ levels = search needs in
-    (omega (arith, long), rw (c .before .lowest .ensures) (lowest-is-slot _))
+    let long : length (c .before .before .before .before .args .self .marks) ≡ levels = search needs in
+    (omega (arith, long), rw (c .before .before .lowest .ensures) (lowest-is-slot _))
+
+low-half-requires : tie.Need-low-half-requires
+low-half-requires c κs = search needs
+
+high-half-requires : tie.Need-high-half-requires
+high-half-requires c κs = search needs
 
 add-self : tie.Need-add-self
 add-self c = omega arith
@@ -46,12 +55,20 @@ add-self c = omega arith
 add-self-2 : tie.Need-add-self-2
 unfolding levels
 add-self-2 c =
-    let long : length (c .before .before .before .before .before .args .self .marks) ≡ levels = search needs in
+    let long : length (c .before .before .before .before .before .before .before .before .args .self .marks) ≡ levels = search needs in
     omega (arith, long)
 
 returns : tie.Need-returns
-unfolding opened openedAt remade
-returns c = rw (c .before .opened-mask .ensures, c .before .before .without-mark .ensures, c .before .before .before .lowest .ensures)
+unfolding opened openedAt remade wholeMask
+returns c =
+    rw (
+      c .before .high-half .ensures,
+      c .before .before .low-half .ensures,
+      c .before .before .before .opened-mask .ensures,
+      c .before .before .before .before .mask .ensures,
+      c .before .before .before .before .before .without-mark .ensures,
+      c .before .before .before .before .before .before .lowest .ensures,
+    )
 
 pub opened-spec : {M : Type 1} → statement M
 opened-spec =
@@ -63,7 +80,10 @@ opened-spec =
     without-mark-requires
     mul-marks
     array-write-marks
+    mask-requires
     opened-mask-requires
+    low-half-requires
+    high-half-requires
     add-self
     add-self-2
     returns)

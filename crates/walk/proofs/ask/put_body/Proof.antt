@@ -27,27 +27,30 @@ slice-write-room c =
 add-put-field : tie.Need-add-put-field
 add-put-field c = omega (arith, c .before .before .before .before .before .put-head .ensures .count, length-head-most (c .before .before .before .before .before .before .before .before .args .walk))
 
+mask-requires : tie.Need-mask-requires
+mask-requires c κs = search needs
+
 put-field-requires : tie.Need-put-field-requires
 put-field-requires c κs = search needs
 
 add-result : tie.Need-add-result
-add-result c = omega (arith, c .before .before .before .before .before .before .before .before .put-head .ensures .count, length-head-most (c .before .before .before .before .before .before .before .before .before .before .before .args .walk))
+add-result c = omega (arith, c .before .before .before .before .before .before .before .before .before .put-head .ensures .count, length-head-most (c .before .before .before .before .before .before .before .before .before .before .before .before .args .walk))
 
 add-result-2 : tie.Need-add-result-2
 add-result-2 c =
-    let start = c .before .before .before .before .before .before .before .before .before .before .before in
+    let start = c .before .before .before .before .before .before .before .before .before .before .before .before in
     let w = start .args .walk in
     let few = mask-bytes-most (w .level) (start .pre .0) in
-    omega (arith, c .before .before .before .before .before .before .before .before .put-head .ensures .count, length-head-most w, c .before .before .before .before .mask-bytes .ensures, few)
+    omega (arith, c .before .before .before .before .before .before .before .before .before .put-head .ensures .count, length-head-most w, c .before .before .before .before .before .mask-bytes .ensures, few)
 
 same-length : tie.Need-same-length
-same-length c = c .before .before .put-field .kept .0 ∙ simp length-set (c .before .before .before .before .before .before .before .before .put-head .kept .1 .0)
+same-length c = c .before .before .put-field .kept .0 ∙ simp length-set (c .before .before .before .before .before .before .before .before .before .put-head .kept .1 .0)
 
 returns : tie.Need-returns
 returns c =
-    let start = c .before .before .before .before .before .before .before .before .before .before .before in
-    puts-body (start .args .walk) (start .args .room .now) (c .before .before .before .before .before .before .before .before .put-head .ensures) (c .before .before .before .before .mask-bytes .ensures)
-    (c .before .before .put-field .ensures) (start .pre .0) (start .pre .1)
+    let start = c .before .before .before .before .before .before .before .before .before .before .before .before in
+    puts-body (start .args .walk) (start .args .room .now) (c .before .before .before .before .before .before .before .before .before .put-head .ensures) (c .before .before .before .before .before .mask-bytes .ensures)
+    (rw (c .before .before .before .mask .ensures) at (c .before .before .put-field .ensures)) (start .pre .0) (start .pre .1)
 
 pub put-body-spec : {M : Type 1} → statement M
 put-body-spec =
@@ -58,6 +61,7 @@ put-body-spec =
     mask-bytes-requires
     slice-write-room
     add-put-field
+    mask-requires
     put-field-requires
     add-result
     add-result-2

@@ -1,8 +1,11 @@
--- `walk::hear::is_clean` meets its contract: the definition goes by the same four tests. Assumes nothing.
+-- `walk::hear::is_clean` meets its contract: the definition goes by the same five tests. Assumes nothing.
 use borrow.Author.Needs.{needs}
 use borrow.Author.Tests.{eq-eqb, ne-eqb, not-true, not-false}
+use mathlib.Core.Path.{_≡_}
 use native.Mathlib.Omega.{arith}
-use Rattle.walk.specs.Record.{maskLength}
+use lib.ListN.{length}
+use Rattle.walk.specs.Marks.{levels}
+use Rattle.walk.specs.Record.{levelsOf, maskLength}
 use Rattle.walk.specs.Hear.{isClean}
 use Rattle.walk.proofs.hear.is_clean.Statement.{statement}
 use Rattle.walk.proofs.hear.is_clean.Tie as tie
@@ -34,31 +37,38 @@ returns-3 c =
     let third = c .if3 in
     rw (eq-eqb _ _ (first .left), ← (is-sealed .ensures), not-false (is-sealed .result) (second .left), ne-eqb _ _ (third .taken))
 
-uid-of-requires : tie.Need-uid-of-requires
-uid-of-requires c κs = search needs
-
 mul-fits-slot : tie.Need-mul-fits-slot
 mul-fits-slot c = omega arith
+
+mask-requires : tie.Need-mask-requires
+mask-requires c κs = search needs
 
 fits-slot-requires : tie.Need-fits-slot-requires
 fits-slot-requires c κs = search needs
 
+starts-e0-requires : tie.Need-starts-e0-requires
+starts-e0-requires c κs = search needs
+
 returns-4 : tie.Need-returns-4
-unfolding isClean maskLength
+unfolding isClean maskLength levels levelsOf
 returns-4 c =
-    let is-sealed = c .before .before .before .before .before .before .is-sealed in
-    let uid-of = c .before .before .uid-of in
-    let first = c .before .before .before .before .before .before .before .if1 in
-    let second = c .before .before .before .before .before .if2 in
-    let third = c .before .before .before .if3 in
-    let fits-slot = c .fits-slot in
+    let start = c .before .before .before .before .before .before .before .before .before .before in
+    let long : length (start .args .walk .marks) ≡ levels = search needs in
+    let is-sealed = c .before .before .before .before .before .before .before .is-sealed in
+    let first = c .before .before .before .before .before .before .before .before .if1 in
+    let second = c .before .before .before .before .before .before .if2 in
+    let third = c .before .before .before .before .if3 in
     rw (
       eq-eqb _ _ (first .left),
       ← (is-sealed .ensures),
       not-false (is-sealed .result) (second .left),
       eq-eqb _ _ (third .left),
-      ← (uid-of .ensures),
-    ) (fits-slot .ensures)
+      ← (start .pre .1),
+      ← (c .before .before .mask .ensures),
+      long,
+      c .before .fits-slot .ensures,
+      c .starts-e0 .ensures,
+    )
 
 pub is-clean-spec : {M : Type 1} → statement M
 is-clean-spec =
@@ -69,7 +79,8 @@ is-clean-spec =
     returns-2
     shared-slice-read-if3
     returns-3
-    uid-of-requires
     mul-fits-slot
+    mask-requires
     fits-slot-requires
+    starts-e0-requires
     returns-4)

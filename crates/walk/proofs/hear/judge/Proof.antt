@@ -13,11 +13,11 @@ enum-told-2 c = search needs
 enum-told-3 : tie.Need-enum-told-3
 enum-told-3 c = search needs
 
-is-clean-requires : tie.Need-is-clean-requires
-is-clean-requires c κs = search needs
-
 uid-of-requires : tie.Need-uid-of-requires
 uid-of-requires c κs = search needs
+
+is-clean-requires : tie.Need-is-clean-requires
+is-clean-requires c κs = search needs
 
 returns : tie.Need-returns
 unfolding judged
@@ -31,14 +31,12 @@ returns-3 : tie.Need-returns-3
 unfolding judged
 returns-3 c =
     let enum-told3 = c .before .before .before .enum-told3 in
-    let is-clean = c .before .before .is-clean in
-    let first = c .before .if1 in
-    let uid-of = c .uid-of in
-    rw (enum-told3 .given .1, ← (is-clean .ensures), first .taken, uid-of .ensures)
+    let uid-of = c .before .before .uid-of in
+    rw (enum-told3 .given .1, ← (c .before .is-clean .ensures), c .if1 .taken, uid-of .ensures)
 
 returns-4 : tie.Need-returns-4
 unfolding judged
-returns-4 c = rw (c .before .before .enum-told3 .given .1, ← (c .before .is-clean .ensures), c .if1 .left)
+returns-4 c = rw (c .before .before .before .enum-told3 .given .1, ← (c .before .is-clean .ensures), c .if1 .left)
 
 pub judge-spec : {M : Type 1} → statement M
 judge-spec =
@@ -47,8 +45,8 @@ judge-spec =
     enum-told
     enum-told-2
     enum-told-3
-    is-clean-requires
     uid-of-requires
+    is-clean-requires
     returns
     returns-2
     returns-3
