@@ -6,7 +6,7 @@ use Prim.Native.Nat.{ℕ, _+_, _*_, _%_, _^_, _≤_, _<_}
 use native.Mathlib.Numerals.{add-one}
 use native.Mathlib.Omega.{arith}
 use mathlib.Core.List.{List, [], _∷_, _++_}
-use borrow.Author.Tests.{lt-ltb, le-leb, eq-eqb}
+use borrow.Author.Tests.{lt-ltb}
 use lib.Dec.{leb}
 use lib.ListN.{length, take, set, length-append, length-set}
 use lib.Pow.{shl-exact, pow-add}
@@ -15,6 +15,7 @@ use Rattle.hex.specs.Digits.{digitOf}
 use Rattle.lines.specs.declared.Lines.{Lines}
 use Rattle.lines.specs.Input.{allDigits, isUid, numberFrom, uidOf}
 use Rattle.lines.specs.Lines.{noLines, freshLines, listed, pushed}
+use Rattle.lines.proofs.LineWays.{isWhole}
 use Rattle.lines.proofs.WrongLines.{all-digits-append}
 
 number-append : (n : ℕ) (xs ys : List ℕ) → numberFrom n (xs ++ ys) ≡ numberFrom (numberFrom n xs) ys
@@ -90,6 +91,7 @@ pub list-more : (s : Lines) (line : List ℕ) → Reading s line → s .count < 
 unfolding uidOf
 list-more s line k h = rw (add-one, take-suc-set (s .uids) (s .count) (s .number) (rw (k .room) h), k .number)
 
-pub good-line : (s : Lines) (line : List ℕ) → Reading s line → s .count < 100 → length line ≡ 16 → (leb (s .count + 1) 100 && isUid line) ≡ true
-unfolding isUid
-good-line s line k h l = rw (le-leb (s .count + 1) 100 (omega arith), eq-eqb (length line) 16 l, k .all)
+-- the state tells whether it is a UID with a place
+pub whole-line : (s : Lines) (line : List ℕ) → Reading s line → (leb (s .count + 1) 100 && isUid line) ≡ isWhole s
+unfolding isUid uidOf
+whole-line s line k = rw (add-one, ← (k .digits), k .all, ← (k .number))

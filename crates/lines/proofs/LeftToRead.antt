@@ -14,7 +14,7 @@ use lib.Seq.{drop-cons, drop-nil}
 use Rattle.hex.specs.Digits.{digitOf}
 use Rattle.lines.specs.declared.Lines.{Lines}
 use Rattle.lines.specs.Lines.{freshLines, wrong, listed, pushed, longer, lineEnded, stepped, closed, readFrom}
-use Rattle.lines.proofs.LineWays.{closed-shut}
+use Rattle.lines.proofs.LineWays.{isWhole, closed-shut}
 
 -- a wrong line stops the reading
 pub read-stopped : (s : Lines) (bs : List ℕ) → (s .bad ≡ 0 → ⊥) → readFrom s bs ≡ s
@@ -33,7 +33,7 @@ closed-listed s = refl
 -- the end of a line closes it
 pub ended-closed : (s : Lines) → lineEnded s ≡ closed (lineEnded s)
 unfolding lineEnded
-ended-closed s = by (ltb (s .count) 100 && eqb (s .digits) 16)
+ended-closed s = by (isWhole s)
   where
     by : (t : Bool) → cond t (listed s) (wrong s) ≡ closed (cond t (listed s) (wrong s))
     by true = closed-listed s
@@ -88,8 +88,8 @@ count-ended : (s : Lines) → s .count ≤ 100 → lineEnded s .count ≤ 100
 unfolding lineEnded listed wrong
 count-ended s h = go (decLt (s .count) 100)
   where
-    go : Dec (s .count < 100) → cond (ltb (s .count) 100 && eqb (s .digits) 16) (listed s) (wrong s) .count ≤ 100
-    go (yes l) = count-either (ltb (s .count) 100 && eqb (s .digits) 16) (listed s) (wrong s) (omega arith) h
+    go : Dec (s .count < 100) → cond (isWhole s) (listed s) (wrong s) .count ≤ 100
+    go (yes l) = count-either (isWhole s) (listed s) (wrong s) (omega arith) h
     go (no l) = rw (le-ltb (s .count) 100 (omega arith)) h
 
 pub count-stepped : (s : Lines) (b : ℕ) → s .count ≤ 100 → stepped s b .count ≤ 100

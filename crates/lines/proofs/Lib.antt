@@ -3,6 +3,6 @@ mod WrongLines
 mod Begun
 mod LeftToRead
 pub mod Reading
-pub mod UidsFit
+pub mod UidsBegin
 pub mod Start
 pub mod Examples

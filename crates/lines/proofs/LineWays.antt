@@ -8,12 +8,17 @@ use borrow.Author.Tests.{ltb-true, eqb-true, eqb-false, not-true, eq-eqb, ne-eqb
 use lib.Dec.{ltb, eqb}
 use Rattle.hex.specs.Digits.{digitOf}
 use Rattle.lines.specs.declared.Lines.{Lines}
+use Rattle.lines.specs.Input.{beginsE0}
 use Rattle.lines.specs.Lines.{wrong, listed, pushed, longer, lineEnded, stepped, closed}
 
 -- ---- the line ends
 
+-- no line 101, 16 digits, the first two E0
 abbrev pub isWhole : Lines → Bool
-isWhole s = ltb (s .count) 100 && eqb (s .digits) 16
+isWhole s = ltb (s .count) 100 && (eqb (s .digits) 16 && beginsE0 (s .number))
+
+pub whole-count : (s : Lines) → isWhole s ≡ true → s .count < 100
+whole-count s on = ltb-true (s .count) 100 (and-eq-true-iff (ltb (s .count) 100) _ .0 on .0)
 
 pub ended-uid : (s : Lines) → isWhole s ≡ true → listed s ≡ lineEnded s
 unfolding lineEnded
@@ -57,9 +62,7 @@ abbrev pub endsUid : Lines → ℕ → Bool
 endsUid s b = eqb b 0x0a && isWhole s
 
 pub uid-count : (s : Lines) (b : ℕ) → endsUid s b ≡ true → s .count < 100
-uid-count s b on =
-    let whole = and-eq-true-iff (eqb b 0x0a) (isWhole s) .0 on .1 in
-    ltb-true (s .count) 100 (and-eq-true-iff (ltb (s .count) 100) _ .0 whole .0)
+uid-count s b on = whole-count s (and-eq-true-iff (eqb b 0x0a) (isWhole s) .0 on .1)
 
 pub stepped-uid : (s : Lines) (b : ℕ) → endsUid s b ≡ true → listed s ≡ stepped s b
 stepped-uid s b on =

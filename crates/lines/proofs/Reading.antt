@@ -1,22 +1,22 @@
 -- Reading byte by byte finds the first wrong line and the UIDs of an input. By induction over what is left of it, after a line that has begun.
 -- Assumes nothing.
 use mathlib.Core.Path.{_≡_, refl, sym, subst, _∙_}
-use mathlib.Core.Bool.{true, false, cond}
+use mathlib.Core.Bool.{Bool, true, false, cond}
 use Prim.Native.Nat.{ℕ, _+_, _≤_, _<_}
 use native.Mathlib.Numerals.{add-one}
 use native.Mathlib.Decide.{ℕ-discrete, decLt}
 use native.Mathlib.Omega.{arith}
 use mathlib.Core.List.{List, [], _∷_, _++_, append-assoc, append-nil}
-use borrow.Author.Tests.{lt-ltb, le-ltb, lt-leb, eq-eqb, ne-eqb}
+use borrow.Author.Tests.{lt-ltb, le-ltb, eq-eqb, ne-eqb}
 use lib.Dec.{eqb}
 use lib.ListN.{length, take, length-append}
 use Rattle.hex.specs.Digits.{digitOf}
 use Rattle.lines.specs.declared.Lines.{Lines}
 use Rattle.lines.specs.Input.{linesFrom, lines, badFrom, badLine, uidsOf, uids}
 use Rattle.lines.specs.Lines.{freshLines, wrong, listed, pushed, longer, lineEnded, stepped, closed, readFrom, Reads}
-use Rattle.lines.proofs.LineWays.{longer-wrong, longer-digit, ended-wrong, ended-uid, stepped-end, stepped-longer, isOpen, closed-open, closed-shut}
-use Rattle.lines.proofs.WrongLines.{isGood, bad-line-dead, dead-101, dead-17, dead-digit, short-line, bad-line-most}
-use Rattle.lines.proofs.Begun.{Reading, reading-fresh, reading-listed, reading-pushed, list-more, good-line}
+use Rattle.lines.proofs.LineWays.{isWhole, whole-count, ended-uid, ended-wrong, longer-digit, longer-wrong, stepped-end, stepped-longer, isOpen, closed-open, closed-shut}
+use Rattle.lines.proofs.WrongLines.{isGood, bad-line-dead, dead-101, dead-17, dead-digit, bad-line-most}
+use Rattle.lines.proofs.Begun.{Reading, reading-fresh, reading-listed, reading-pushed, list-more, whole-line}
 use Rattle.lines.proofs.LeftToRead.{read-stopped, wrong-bad, ended-closed}
 
 -- what reading finds after a state with lines to come
@@ -37,24 +37,21 @@ found-wrong s ls bs h e =
 found-ended : (s : Lines) (line bs : List ℕ) → Reading s line
     → (s .count < 100 → Found (listed s) (linesFrom [] bs) (readFrom (listed s) bs)) → Found s (line ∷ linesFrom [] bs) (readFrom (lineEnded s) bs)
 unfolding badFrom uidsOf listed
-found-ended s line bs k f = go (decLt (s .count) 100) (ℕ-discrete (length line) 16)
+found-ended s line bs k f = go (isWhole s) refl
   where
-    go : Dec (s .count < 100) → Dec (length line ≡ 16) → Found s (line ∷ linesFrom [] bs) (readFrom (lineEnded s) bs)
-    go (yes h) (yes l) =
+    go : (t : Bool) → isWhole s ≡ t → Found s (line ∷ linesFrom [] bs) (readFrom (lineEnded s) bs)
+    go true e =
+        let h = whole-count s e in
         let g = f h in
-        let is : lineEnded s ≡ listed s = sym (ended-uid s (rw (lt-ltb (s .count) 100 h, eq-eqb (s .digits) 16 (k .digits ∙ l)))) in
+        let is : lineEnded s ≡ listed s = sym (ended-uid s e) in
         record {
-          bad = rw (is, good-line s line k h l, ← (add-one (s .count + 1))) (g .bad);
+          bad = rw (is, whole-line s line k, e, ← (add-one (s .count + 1))) (g .bad);
           count = rw is (g .count);
-          listed = rw is (λ e. g .listed e ∙ rw (list-more s line k h, append-assoc));
+          listed = rw is (λ q. g .listed q ∙ rw (list-more s line k h, append-assoc));
         }
-    go (yes h) (no l) =
-        let is : lineEnded s ≡ wrong s = sym (ended-wrong s (rw (lt-ltb (s .count) 100 h, ne-eqb (s .digits) 16 (λ e. l (sym (k .digits) ∙ e))))) in
-        rw is (found-wrong s (line ∷ linesFrom [] bs) bs (k .count) (rw (short-line (s .count + 1) line l)))
-    go (no h) l =
-        let at : s .count ≡ 100 = omega (arith, k .count) in
-        let is : lineEnded s ≡ wrong s = sym (ended-wrong s (rw (le-ltb (s .count) 100 (omega arith)))) in
-        rw is (found-wrong s (line ∷ linesFrom [] bs) bs (k .count) (rw (lt-leb (s .count + 1) 100 (omega arith))))
+    go false e =
+        let is : lineEnded s ≡ wrong s = sym (ended-wrong s e) in
+        rw is (found-wrong s (line ∷ linesFrom [] bs) bs (k .count) (rw (whole-line s line k, e)))
 
 found-pushed : (s : Lines) (d : ℕ) (ls : List (List ℕ)) (r : Lines) → Found (pushed s d) ls r → Found s ls r
 unfolding pushed

@@ -58,10 +58,6 @@ dead-digit n b line rest h =
     let off : ltb (digitOf b) 16 ≡ false = le-ltb (digitOf b) 16 h in
     rw (append-assoc, all-digits-append, off, and-false, and-false, and-false)
 
-pub short-line : (n : ℕ) (line : List ℕ) → (length line ≡ 16 → ⊥) → (leb n 100 && isUid line) ≡ false
-unfolding isUid
-short-line n line l = rw (ne-eqb (length line) 16 l, and-false)
-
 -- ---- its number
 
 bad-most : (n : ℕ) (ls : List (List ℕ)) → n ≤ 101 → badFrom n ls ≤ 101

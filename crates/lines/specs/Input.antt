@@ -1,5 +1,5 @@
 -- 01, Bench: "Standard input has one UID a line, 16 upper-case hex digits".
-use Prim.Native.Nat.{ℕ, suc, _+_, _*_}
+use Prim.Native.Nat.{ℕ, suc, _+_, _*_, _/_, _^_}
 use mathlib.Core.Bool.{Bool, true, cond, _&&_}
 use mathlib.Core.List.{List, [], _∷_, _++_}
 use lib.Dec.{leb, eqb}
@@ -18,10 +18,6 @@ unfoldable pub allDigits : List ℕ → Bool
 allDigits [] = true
 allDigits (b ∷ bs) = isDigit b && allDigits bs
 
--- "16 upper-case hex digits"
-unfoldable pub isUid : List ℕ → Bool
-isUid line = eqb (length line) 16 && allDigits line
-
 -- the number that digits stand for, the first the highest, after a number that has begun
 unfoldable pub numberFrom : ℕ → List ℕ → ℕ
 numberFrom n [] = n
@@ -29,6 +25,14 @@ numberFrom n (b ∷ bs) = numberFrom (16 * n + digitOf b) bs
 
 unfoldable pub uidOf : List ℕ → ℕ
 uidOf line = numberFrom 0 line
+
+-- 02, W6: "The bench calls any other UID a bad line.": "All UIDs begin with E0"
+unfoldable pub beginsE0 : ℕ → Bool
+beginsE0 uid = eqb (uid / 2 ^ 56) 0xe0
+
+-- "16 upper-case hex digits", and the above
+unfoldable pub isUid : List ℕ → Bool
+isUid line = eqb (length line) 16 && (allDigits line && beginsE0 (uidOf line))
 
 -- "The first wrong line, or line 101": its number, or 0 where there is none. n is the number of the first line here
 unfoldable pub badFrom : ℕ → List (List ℕ) → ℕ

@@ -7,7 +7,7 @@ use lib.Dec.{ltb, eqb}
 use lib.ListN.{set, take}
 use Rattle.hex.specs.Digits.{digitOf}
 use Rattle.lines.specs.declared.Lines.{Lines}
-use Rattle.lines.specs.Input.{badLine, uids}
+use Rattle.lines.specs.Input.{beginsE0, badLine, uids}
 
 -- "0 to 100 of them": room for 100
 unfoldable pub noLines : List ℕ
@@ -42,7 +42,7 @@ longer s b = cond (ltb (s .count) 100 && (ltb (s .digits) 16 && ltb (digitOf b) 
 
 -- the line ends
 unfoldable pub lineEnded : Lines → Lines
-lineEnded s = cond (ltb (s .count) 100 && eqb (s .digits) 16) (listed s) (wrong s)
+lineEnded s = cond (ltb (s .count) 100 && (eqb (s .digits) 16 && beginsE0 (s .number))) (listed s) (wrong s)
 
 -- "A line ends with the byte 0A"
 unfoldable pub stepped : Lines → ℕ → Lines

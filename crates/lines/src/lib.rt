@@ -1,6 +1,7 @@
 // The lines of an input: a UID each, read byte by byte up to the first wrong one.
 ghost use mathlib.Core.Path.{_≡_};
 ghost use Prim.Native.Nat.{_≤_, _<_};
+ghost use Rattle.lines.specs.Input.{beginsE0};
 ghost use Rattle.lines.specs.Lines.{freshLines, wrong, stepped, readFrom};
 use hex::digit_of;
 
@@ -34,13 +35,21 @@ fn wrong(mut lines: Lines) -> Lines
     lines
 }
 
-// A byte of the input: it ends a line that is a UID, or is a digit more, or the line is wrong. The byte 0A is no digit.
+// "All UIDs begin with E0": the first two of 16 digits.
+fn begins_e0(number: u64) -> bool
+    ensures { λ r. ⌜ r ≡ beginsE0 number ⌝ }
+{
+    number >> 56 == 0xE0
+}
+
+// A byte of the input: it ends a line that is a UID, or is a digit more, or the line is wrong.
+// A UID has 16 digits and begins with E0. The byte 0A is no digit.
 fn take(mut lines: Lines, b: u8) -> Lines
     requires { ⌜ lines .count ≤ 100 ⌝ }
     ensures { λ r. ⌜ r ≡ stepped lines b ⌝ }
 {
     let at = lines.count;
-    if (b == b'\n') & ((at < 100) & (lines.digits == 16)) {
+    if (b == b'\n') & ((at < 100) & ((lines.digits == 16) & begins_e0(lines.number))) {
         let mut uids = lines.uids;
         uids[at] = lines.number;
         lines.uids = uids;
