@@ -10,7 +10,7 @@ use lib.ListN.{length}
 use Rattle.slots.specs.Fits.{fitsSlot}
 use Rattle.walk.specs.declared.Walk.{Walk}
 use Rattle.walk.specs.Marks.{levels}
-use Rattle.walk.specs.Record.{running, maskLength, isRunning, remade, noMarks, startedOf, started}
+use Rattle.walk.specs.Record.{running, maskLength, wholeMask, isRunning, remade, noMarks, startedOf, started}
 use Rattle.walk.specs.Ask.{roomAfter}
 use Rattle.walk.proofs.Accepted.{started-accepted}
 use Rattle.play.specs.Life.{Tag, tagAfter}
@@ -25,12 +25,12 @@ use Rattle.field.proofs.RowAsked.{walk-asked, sent-request}
 
 -- slot s of a walk's first round
 unfoldable firstRound : ℕ → ℕ → Walk
-firstRound family s = remade (started family) 0 (noMarks levels) 1 0 s 0 running
+firstRound family s = remade (started family) 0 0 (noMarks levels) 1 0 s 0 running
 
 -- the request of a fresh walk
 request-in : (family : ℕ) (room : List ℕ) (t : Tag) → Obeys t → 14 ≤ length room
     → outcomeIn family room t 0 ≡ stepped family (firstRound family 0) t (t .room)
-unfolding outcomeIn roomAfter firstRound started startedOf remade isRunning maskLength
+unfolding outcomeIn roomAfter firstRound started startedOf remade isRunning maskLength wholeMask
 request-in family room t o h =
     rw (walk-asked (started family) room (started-accepted family) h, sent-request (started family) refl refl)
     (request-reached (started family) room t t (omega arith) (omega arith) refl o (self-follows t o))
@@ -38,7 +38,7 @@ request-in family room t o h =
 -- in slot s the card is in step with the walk, over its room as slot s found it
 in-step : (family : ℕ) (room : List ℕ) (t : Tag) → Obeys t → 14 ≤ length room → (s : ℕ) → s < 16
     → (found : List ℕ) × ((outcomeIn family room t s ≡ stepped family (firstRound family s) t found) × (length found ≡ length (t .room)))
-unfolding outcomeIn tagAfter firstRound started startedOf remade maskLength
+unfolding outcomeIn tagAfter firstRound started startedOf remade maskLength wholeMask
 in-step family room t o h zero g = (t .room, (request-in family room t o h, refl))
 in-step family room t o h (suc s) g =
     let earlier = in-step family room t o h s (omega arith) in
@@ -58,7 +58,7 @@ told-heard true = refl
 told-heard false = refl
 
 pub card-heard-once : heardOnce
-unfolding heardOnce isHeard calls firstRound started startedOf remade
+unfolding heardOnce isHeard calls firstRound started startedOf remade wholeMask
 card-heard-once family room t o h s g =
     let stepped-in = in-step family room t o h s g in
     rw (stepped-in .1 .0, stepped-told family (firstRound family s) t (stepped-in .0))

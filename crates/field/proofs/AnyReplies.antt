@@ -15,7 +15,7 @@ use Rattle.walk.specs.declared.Walk.{Walk}
 use Rattle.walk.specs.declared.Slot.{Slot}
 use Rattle.walk.specs.declared.Slot.the-variants.{Silent, Clashed, Clean}
 use Rattle.walk.specs.Marks.{deepest}
-use Rattle.walk.specs.Record.{mostRounds, remade, startedOf, counted, marked, atNextSlot, openedAt, opened}
+use Rattle.walk.specs.Record.{wholeMask, mostRounds, remade, startedOf, counted, marked, atNextSlot, openedAt, opened}
 use Rattle.walk.specs.Hear.{endsAtOnce, noted}
 use Rattle.walk.proofs.HearWays.{clean-goes-on}
 use Rattle.walk.proofs.LevelsStay.{levels-started, levels-noted, levels-opened}
@@ -41,7 +41,7 @@ pub record Walks (levels : ℕ) (w : Walk) (ls : List ℕ) (t : ℕ) : Type 0 wh
 unfoldable pub Fits : Walk → Slot → Type 0
 Fits w Silent = Unit {0}
 Fits w Clashed = Unit {0}
-Fits w (Clean u) = u % 16 ^ suc (w .level) ≡ slotTail (w .level) (w .mask) (w .slot)
+Fits w (Clean u) = u % 16 ^ suc (w .level) ≡ slotTail (w .level) (wholeMask w) (w .slot)
 
 pub start-walks : (levels family : ℕ) → 1 ≤ levels → Walks levels (startedOf levels family) [] 0
 unfolding startedOf times tally
@@ -118,7 +118,7 @@ noted-single w ls ls' Clashed place h g e f l u =
     let again = ahead-marked (alone u) w (suc (w .slot)) h (g .steady) in
     omega (arith, g .single u, l (λ y. one (eqb y u)), ahead-hear (alone u) w (w .slot) h, again)
 noted-single w ls ls' (Clean x) place h g e f l u =
-    let tail : ℕ = slotTail (w .level) (w .mask) (w .slot) in
+    let tail : ℕ = slotTail (w .level) (wholeMask w) (w .slot) in
     let more = clean-added (λ y. one (eqb y u)) w x place e in
     let heard = ahead-hear (alone u) w (w .slot) h in
     let same = ahead-counted (alone u) w (suc (w .slot)) in
@@ -158,6 +158,6 @@ open-walks w ls j g d r =
       number = g .number;
       single = λ u.
           let turned = ahead-opened (alone u) w j (g .steady) d in
-          let parts = weigh-parts (λ x. 1) (u ∷ []) (suc j) (opened w j .mask) (opened-mask-below w j) in
+          let parts = weigh-parts (λ x. 1) (u ∷ []) (suc j) (wholeMask (opened w j)) (opened-mask-below w j) in
           omega (arith, g .single u, turned, parts);
     }

@@ -10,13 +10,13 @@ use Rattle.tails.proofs.Digits.{digits-of-bits, above-fits}
 use Rattle.slots.specs.Fits.{fitsMask, fitsSlot}
 use Rattle.card.specs.declared.Card.{Card}
 use Rattle.walk.specs.declared.Walk.{Walk}
-use Rattle.walk.specs.Record.{maskLength}
+use Rattle.walk.specs.Record.{levelsOf, maskLength, wholeMask}
 use Rattle.walk.specs.Hear.{judged}
 use Rattle.play.specs.Life.{Tag}
 use Rattle.field.specs.Field.{answers, answering, arrives}
 use Rattle.field.specs.Demand.{AllObey}
 use Rattle.field.specs.Demand as demand
-use Rattle.field.proofs.Called.{called, slotOf}
+use Rattle.field.proofs.Called.{called, slotHeard}
 use Rattle.field.proofs.InTime.{calls}
 use Rattle.field.proofs.Reply.{message, message-uid, message-clean}
 
@@ -40,7 +40,7 @@ pub slot-tail : (uid level mask slot : ℕ) → mask < 2 ^ maskLength level → 
 unfolding fitsSlot fitsMask maskLength
 slot-tail uid level mask slot h g = rw (digits-of-bits level) (sym (above-fits uid level mask slot (rw (digits-of-bits level) at h) g))
 
-pub called-callers : (family : ℕ) (w : Walk) (ts : List Tag) → w .mask < 2 ^ maskLength (w .level) → w .slot < 16
+pub called-callers : (family : ℕ) (w : Walk) (ts : List Tag) → wholeMask w < 2 ^ maskLength (w .level) → w .slot < 16
     → called (answering family ts) w ≡ uids (callers family w ts)
 unfolding called answering ending callers uids calls
 called-callers family w [] h g = refl
@@ -57,17 +57,17 @@ called-callers family w (t ∷ ts) h g = go (answers family (t .card)) (called-c
 
     go : (b : Bool) → called (answering family ts) w ≡ uids (callers family w ts)
         → called (cond b (uid ∷ answering family ts) (answering family ts)) w
-        ≡ uids (cond (b && fitsSlot uid (maskLength (w .level)) (w .mask) (w .slot)) (t .card ∷ callers family w ts) (callers family w ts))
+        ≡ uids (cond (b && fitsSlot uid (maskLength (w .level)) (wholeMask w) (w .slot)) (t .card ∷ callers family w ts) (callers family w ts))
     go true rest =
-        rw (slot-tail uid (w .level) (w .mask) (w .slot) h g)
-        (either (eqb (uid % 16 ^ suc (w .level)) (w .mask + w .slot * 16 ^ w .level)) rest)
+        rw (slot-tail uid (w .level) (wholeMask w) (w .slot) h g)
+        (either (eqb (uid % 16 ^ suc (w .level)) (wholeMask w + w .slot * 16 ^ w .level)) rest)
     go false rest = rest
 
 -- ---- what their messages are judged to be
 
 pub data AllFit (w : Walk) : List Card → Type 0 where
   none : AllFit w []
-  more : {c : Card} {cs : List Card} → fitsSlot (c .uid) (maskLength (w .level)) (w .mask) (w .slot) ≡ true → c .uid < 2 ^ 64 → AllFit w cs
+  more : {c : Card} {cs : List Card} → fitsSlot (c .uid) (maskLength (w .level)) (wholeMask w) (w .slot) ≡ true → c .uid < 2 ^ 64 → AllFit w cs
       → AllFit w (c ∷ cs)
 
 pub callers-fit : (family : ℕ) (w : Walk) (ts : List Tag) → AllObey ts → AllFit w (callers family w ts)
@@ -78,12 +78,14 @@ callers-fit family w (t ∷ ts) (demand.more o os) = go (calls family w (t .card
     go : (b : Bool) → calls family w (t .card) ≡ b → AllFit w (callers family w ts)
         → AllFit w (cond b (t .card ∷ callers family w ts) (callers family w ts))
     go true e rest =
-        let fits : Bool = fitsSlot (t .card .uid) (maskLength (w .level)) (w .mask) (w .slot) in
+        let fits : Bool = fitsSlot (t .card .uid) (maskLength (w .level)) (wholeMask w) (w .slot) in
         more (and-eq-true-iff (answers family (t .card)) fits .0 e .1) (o .uid-fits) rest
     go false e rest = rest
 
-pub callers-judged : (w : Walk) (cs : List Card) → AllFit w cs → judged w (arrives (messages cs) .kind) (arrives (messages cs) .bytes) ≡ slotOf (uids cs)
-unfolding judged arrives messages slotOf uids
+-- one that does not begin with E0 is judged as a clash
+pub callers-judged : (w : Walk) (cs : List Card) → AllFit w cs
+    → judged w (arrives (messages cs) .kind) (arrives (messages cs) .bytes) ≡ slotHeard (levelsOf w) (uids cs)
+unfolding judged arrives messages slotHeard uids
 callers-judged w [] none = refl
 callers-judged w (c ∷ []) (more fits uid-fits none) = rw (message-clean w c uid-fits, fits, message-uid c uid-fits)
 callers-judged w (c ∷ d ∷ cs) fit = refl

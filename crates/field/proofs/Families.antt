@@ -1,5 +1,5 @@
 -- 02's examples of an asked AFI, on the card's event, and a shop's rack asked for a whole family. By the card's own tests, and demand 3. Assumes nothing.
-use mathlib.Core.Path.{_≡_, refl}
+use mathlib.Core.Path.{_≡_, refl, subst⁻¹}
 use mathlib.Core.Bool.{Bool, true, false, not, _&&_}
 use Prim.Native.Nat.{ℕ, _*_, _≤_}
 use native.Mathlib.Omega.{arith}
@@ -15,6 +15,7 @@ use Rattle.play.specs.Examples.{Listens, blank}
 use Rattle.field.specs.Field.{tableOne, familyFits, answers, answering}
 use Rattle.field.specs.Demand.{AllObey, Demand3, demand3}
 use Rattle.field.specs.Played.{playedFor, fresh}
+use Rattle.field.specs.Found.{BeginE0}
 use Rattle.field.specs.Families.{Calling, ListensOf, Families}
 use Rattle.field.proofs.Calling.{calling-served}
 use Rattle.field.proofs.Demand3.{walk-of-a-field}
@@ -41,12 +42,14 @@ unfolding answering answers familyFits tableOne
 burrs-answer a b other c la lb lo lc = rw (la .heard, la .own, lb .heard, lb .own, lo .heard, lo .own, lc .heard, lc .own)
 
 burrs-found : (a b other c : Tag) → ListensOf 0x31 a → ListensOf 0x32 b → ListensOf 0x41 other → ListensOf 0x33 c
-    → (list room : List ℕ) → AllObey (a ∷ b ∷ other ∷ c ∷ []) → 64 ≤ length list → 14 ≤ length room
+    → (list room : List ℕ) → AllObey (a ∷ b ∷ other ∷ c ∷ []) → BeginE0 (a .card .uid ∷ b .card .uid ∷ c .card .uid ∷ []) → 64 ≤ length list
+    → 14 ≤ length room
     → Demand3 0x30 (a ∷ b ∷ other ∷ c ∷ []) (a .card .uid ∷ b .card .uid ∷ c .card .uid ∷ [])
-    (playedFor (16 * 481) (fresh 0x30 list room (a ∷ b ∷ other ∷ c ∷ [])))
+    (playedFor (16 * 417) (fresh 0x30 list room (a ∷ b ∷ other ∷ c ∷ [])))
 unfolding demand3
-burrs-found a b other c la lb lo lc list room obey places fits =
-    rw (burrs-answer a b other c la lb lo lc) at (walk-of-a-field 0x30 (a ∷ b ∷ other ∷ c ∷ []) list room obey places fits)
+burrs-found a b other c la lb lo lc list room obey begin places fits =
+    let just = burrs-answer a b other c la lb lo lc in
+    rw just at (walk-of-a-field 0x30 (a ∷ b ∷ other ∷ c ∷ []) list room obey (subst⁻¹ (λ (us : List ℕ). BeginE0 us) just begin) places fits)
 
 pub families : Families
 unfolding fitsFamily unmasked

@@ -10,7 +10,7 @@ use Rattle.card.specs.declared.Sequence.the-variants.{Running}
 use Rattle.card.specs.Record.{isAccepted, cleared, inSequence}
 use Rattle.slots.specs.Fits.{fitsSlot}
 use Rattle.walk.specs.declared.Walk.{Walk}
-use Rattle.walk.specs.Record.{maskLength}
+use Rattle.walk.specs.Record.{maskLength, wholeMask}
 use Rattle.play.specs.Life.{Tag}
 use Rattle.field.specs.Field.{answers}
 
@@ -20,7 +20,7 @@ inStep family level mask s c = cond (answers family c) (inSequence (Running s (m
 
 -- the card answers the walk's slot
 unfoldable pub calls : ℕ → Walk → Card → Bool
-calls family w c = answers family c && fitsSlot (c .uid) (maskLength (w .level)) (w .mask) (w .slot)
+calls family w c = answers family c && fitsSlot (c .uid) (maskLength (w .level)) (wholeMask w) (w .slot)
 
 -- a tag t that was t₀ at the start: between two rounds, its sequence and held answer are anything
 pub record Follows (t₀ t : Tag) : Type 0 where

@@ -11,9 +11,9 @@ use lib.Seq.{getD-set-same, getD-set-other}
 use Rattle.tails.proofs.Digits.{digits-of-bits}
 use Rattle.walk.specs.declared.Walk.{Walk}
 use Rattle.walk.specs.Marks.{lowest}
-use Rattle.walk.specs.Record.{maskLength, noMarks, openedMask, remade, openedAt, opened}
+use Rattle.walk.specs.Record.{maskLength, wholeMask, noMarks, openedMask, opened}
 use Rattle.walk.proofs.Levels.{lowest-is-slot, deepest-none}
-use Rattle.walk.proofs.Limits.{opened-mask-fits}
+use Rattle.walk.proofs.Limits.{opened-mask-fits, mask-opened}
 use Rattle.field.proofs.Waiting.{deepest-last}
 
 -- no mark at the start
@@ -34,8 +34,8 @@ pub opened-mask : (mask j s : ℕ) → openedMask mask j s ≡ mask % 16 ^ j + s
 unfolding openedMask maskLength
 opened-mask mask j s = rw (digits-of-bits j)
 
-pub opened-mask-below : (w : Walk) (j : ℕ) → opened w j .mask < 16 ^ suc j
-unfolding opened openedAt remade maskLength
+pub opened-mask-below : (w : Walk) (j : ℕ) → wholeMask (opened w j) < 16 ^ suc j
+unfolding maskLength
 opened-mask-below w j =
     let m : ℕ = getD (w .marks) j 0 in
-    rw (digits-of-bits (j + 1), add-one) at (opened-mask-fits (w .mask) j (lowest m) (lowest-is-slot m))
+    rw (mask-opened w j) (rw (digits-of-bits (j + 1), add-one) at (opened-mask-fits (wholeMask w) j (lowest m) (lowest-is-slot m)))

@@ -38,6 +38,8 @@ pub mod AnyStages
 pub mod AnyWalk
 pub mod Demand3
 pub mod Rounds
+pub mod TwoLevels
+pub mod Foreign
 pub mod Examples
 pub mod Answering
 pub mod Calling

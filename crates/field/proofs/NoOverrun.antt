@@ -1,4 +1,4 @@
--- A walk of a fixed field never needs a round over its limit, 482 for sixteen levels, whatever the number of cards: of each length at most 33 shared
+-- A walk of a fixed field never needs a round over its limit, 417 for fourteen levels and 481 for sixteen, whatever the number of cards: of each length at most 33 shared
 -- tails were opened, and of length 1 at most 16. By weighing what is ahead against the UIDs listed. Assumes nothing.
 use mathlib.Core.Path.{_≡_, refl, sym, ap, _∙_}
 use Prim.Native.Nat.{ℕ, suc, _+_, _-_, _*_, _%_, _^_, _≤_, _<_}
@@ -12,7 +12,7 @@ use Rattle.tails.proofs.Sums.{tot-none, tot-le, tot-add, tot-const}
 use Rattle.tails.proofs.Bounds.{shared-of-half, shared-of-one}
 use Rattle.tails.proofs.Deeper.{deeper-below}
 use Rattle.walk.specs.declared.Walk.{Walk}
-use Rattle.walk.specs.Record.{mostRounds}
+use Rattle.walk.specs.Record.{wholeMask, mostRounds}
 use Rattle.field.proofs.Waiting.{wait}
 use Rattle.field.proofs.WaitSums.{slotTail, waiting, waiting-tot}
 use Rattle.field.proofs.Ahead.{toHear, ahead}
@@ -20,12 +20,12 @@ use Rattle.field.proofs.Weights.{weigh, belowAt}
 use Rattle.field.proofs.Opened.{deeperOf, shared-of-opened}
 
 -- after slot 15 only what waits is ahead
-ahead-last : (f : ℕ → ℕ → ℕ) (w : Walk) → ahead f w 16 ≡ waiting f (w .marks) (w .mask)
+ahead-last : (f : ℕ → ℕ → ℕ) (w : Walk) → ahead f w 16 ≡ waiting f (w .marks) (wholeMask w)
 unfolding ahead toHear
 ahead-last f w =
-    let at : ℕ → ℕ = λ s. f (suc (w .level)) (slotTail (w .level) (w .mask) s) in
+    let at : ℕ → ℕ = λ s. f (suc (w .level)) (slotTail (w .level) (wholeMask w) s) in
     let rest : tot 0 16 at ≡ 0 = tot-none 16 at in
-    rw rest (add-zero (waiting f (w .marks) (w .mask)))
+    rw rest (add-zero (waiting f (w .marks) (wholeMask w)))
 
 -- a weight that is at most another one
 waiting-le : (f g : ℕ → ℕ → ℕ) (marks : List ℕ) (mask : ℕ) → ((j m : ℕ) → f j m ≤ g j m) → waiting f marks mask ≤ waiting g marks mask
@@ -74,11 +74,11 @@ shared-most us ls marks mask k few weighed =
 pub rounds-most : (us ls : List ℕ) (w : Walk) (k : ℕ) → length ls ≤ 64 → ((v : ℕ → ℕ) → tally v ls + ahead (weigh v us) w 16 ≡ tally v us)
     → w .rounds + ahead (belowAt (suc (suc k)) us) w 16 ≡ 1 + sharedTailsTo (suc k) us → w .rounds ≤ 17 + 33 * k
 rounds-most us ls w k few weighed counted =
-    let most : sharedTailsTo (suc k) us ≤ 16 + 33 * k + waiting (belowAt (suc (suc k)) us) (w .marks) (w .mask) =
-    shared-most us ls (w .marks) (w .mask) k few (λ v. ap (λ (x : ℕ). tally v ls + x) (sym (ahead-last (weigh v us) w)) ∙ weighed v) in
+    let most : sharedTailsTo (suc k) us ≤ 16 + 33 * k + waiting (belowAt (suc (suc k)) us) (w .marks) (wholeMask w) =
+    shared-most us ls (w .marks) (wholeMask w) k few (λ v. ap (λ (x : ℕ). tally v ls + x) (sym (ahead-last (weigh v us) w)) ∙ weighed v) in
     omega (arith, most, counted, ahead-last (belowAt (suc (suc k)) us) w)
 
--- for up to sixteen levels that is below the limit: 479 of 481 for sixteen
+-- for up to sixteen levels that is below the limit: 413 of 417 for fourteen, 479 of 481 for sixteen
 pub rounds-below : (us ls : List ℕ) (w : Walk) (levels : ℕ) → 2 ≤ levels → levels ≤ 16 → length ls ≤ 64
     → ((v : ℕ → ℕ) → tally v ls + ahead (weigh v us) w 16 ≡ tally v us)
     → w .rounds + ahead (belowAt levels us) w 16 ≡ 1 + sharedTailsTo (levels - 1) us → w .rounds < mostRounds levels

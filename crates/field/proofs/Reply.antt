@@ -1,7 +1,7 @@
--- A card's answer to an inventory is read back: it is clean exactly if the UID fits mask and slot, and the UID is the card's.
+-- A card's answer to an inventory is read back: it is clean exactly if the UID fits mask and slot and begins with E0, and the UID is the card's.
 -- By the round trips of the check and of a field. Assumes nothing.
 use mathlib.Core.Path.{_≡_, refl, sym, ap, _∙_}
-use mathlib.Core.Bool.{true}
+use mathlib.Core.Bool.{true, _&&_}
 use Prim.Native.Nat.{ℕ, _^_, _<_}
 use native.Mathlib.Omega.{arith}
 use mathlib.Core.List.{List, _∷_, _++_}
@@ -16,8 +16,8 @@ use Rattle.card.specs.declared.Card.{Card}
 use Rattle.play.specs.Answer.{presence}
 use Rattle.play.proofs.Answers.{length-presence}
 use Rattle.walk.specs.declared.Walk.{Walk}
-use Rattle.walk.specs.Record.{maskLength}
-use Rattle.walk.specs.Hear.{uidOf, isClean}
+use Rattle.walk.specs.Record.{levelsOf, maskLength, wholeMask}
+use Rattle.walk.specs.Hear.{uidOf, startsE0, isClean}
 
 -- the answer's bytes
 unfoldable pub message : Card → List ℕ
@@ -51,6 +51,7 @@ message-sealed : (c : Card) → isSealed (message c) ≡ true
 unfolding message
 message-sealed c = is-sealed-of-sealed (0x00 ∷ presence c)
 
-pub message-clean : (w : Walk) (c : Card) → c .uid < 2 ^ 64 → isClean w (message c) ≡ fitsSlot (c .uid) (maskLength (w .level)) (w .mask) (w .slot)
+pub message-clean : (w : Walk) (c : Card) → c .uid < 2 ^ 64
+    → isClean w (message c) ≡ (fitsSlot (c .uid) (maskLength (w .level)) (wholeMask w) (w .slot) && startsE0 (levelsOf w) (c .uid))
 unfolding isClean
 message-clean w c h = rw (length-message c, message-sealed c, message-flags c, message-uid c h)

@@ -25,7 +25,7 @@ use Rattle.slots.specs.Fits.{maskBytes, fitsSlot}
 use Rattle.commands.specs.Frame.{leaving, decided}
 use Rattle.commands.proofs.Rules.{inventory-frame}
 use Rattle.walk.specs.declared.Walk.{Walk}
-use Rattle.walk.specs.Record.{maskLength, hasFamily}
+use Rattle.walk.specs.Record.{maskLength, wholeMask, hasFamily}
 use Rattle.walk.specs.Ask.{requestHead, requestBody, request}
 use Rattle.walk.proofs.Requests.{length-head-least, length-body, length-request-most}
 use Rattle.field.specs.Field.{listens, familyFits, answers}
@@ -37,16 +37,16 @@ use Rattle.field.proofs.Request.{joined, family-parsed, none-parsed}
 
 family-request : (w : Walk) → hasFamily w ≡ true
     → request w
-    ≡ 0x16 ∷ 0x01 ∷ w .family ∷ maskLength (w .level) ∷ (fieldBytes (maskBytes (maskLength (w .level))) (w .mask) ++ checkBytes (requestBody w))
+    ≡ 0x16 ∷ 0x01 ∷ w .family ∷ maskLength (w .level) ∷ (fieldBytes (maskBytes (maskLength (w .level))) (wholeMask w) ++ checkBytes (requestBody w))
 unfolding request requestBody requestHead sealed maskBytes
 family-request w e = rw e
 
 none-request : (w : Walk) → hasFamily w ≡ false
-    → request w ≡ 0x06 ∷ 0x01 ∷ maskLength (w .level) ∷ (fieldBytes (maskBytes (maskLength (w .level))) (w .mask) ++ checkBytes (requestBody w))
+    → request w ≡ 0x06 ∷ 0x01 ∷ maskLength (w .level) ∷ (fieldBytes (maskBytes (maskLength (w .level))) (wholeMask w) ++ checkBytes (requestBody w))
 unfolding request requestBody requestHead sealed maskBytes
 none-request w e = rw e
 
--- ---- its length: 5 to 14 bytes
+-- ---- its length: 5 to 14 bytes, of up to sixteen levels
 
 pub request-sound : (w : Walk) → w .level < 16 → isSound (request w) ≡ true
 unfolding request
@@ -100,44 +100,44 @@ none-answers w c e = rw (cleared-mode c, quiet-listens (c .mode), le-leb 256 (w 
 
 -- a card that joins is in step
 joined-turn : (c : Card) (w : Walk) → w .slot ≡ 0
-    → joined (answers (w .family) c) (cleared c) (maskLength (w .level)) (w .mask)
-    ≡ turn (inStep (w .family) (w .level) (w .mask) (w .slot) c) (present (calls (w .family) w c))
-unfolding joined inStep calls present
+    → joined (answers (w .family) c) (cleared c) (maskLength (w .level)) (wholeMask w)
+    ≡ turn (inStep (w .family) (w .level) (wholeMask w) (w .slot) c) (present (calls (w .family) w c))
+unfolding joined inStep calls present wholeMask
 joined-turn c w e = rw e (go (answers (w .family) c))
   where
     n : ℕ
     n = maskLength (w .level)
 
-    go : (b : Bool) → joined b (cleared c) n (w .mask)
-        ≡ turn (cond b (inSequence (Running 0 n (w .mask)) (cleared c)) (cleared c)) (present (b && fitsSlot (c .uid) n (w .mask) 0))
-    go true = ap (λ (u : ℕ). turn (inSequence (Running 0 n (w .mask)) (cleared c)) (present (fitsSlot u n (w .mask) 0))) (cleared-uid c)
+    go : (b : Bool) → joined b (cleared c) n (wholeMask w)
+        ≡ turn (cond b (inSequence (Running 0 n (wholeMask w)) (cleared c)) (cleared c)) (present (b && fitsSlot (c .uid) n (wholeMask w) 0))
+    go true = ap (λ (u : ℕ). turn (inSequence (Running 0 n (wholeMask w)) (cleared c)) (present (fitsSlot u n (wholeMask w) 0))) (cleared-uid c)
     go false = refl
 
 pub mask-length-most : (level : ℕ) → level < 16 → maskLength level ≤ 60
 unfolding maskLength
 mask-length-most level h = omega arith
 
-pub request-heard : (c : Card) (w : Walk) → w .level < 16 → w .mask < 2 ^ maskLength (w .level) → w .slot ≡ 0
-    → heardInventory c (request w) ≡ turn (inStep (w .family) (w .level) (w .mask) (w .slot) c) (present (calls (w .family) w c))
+pub request-heard : (c : Card) (w : Walk) → w .level < 16 → wholeMask w < 2 ^ maskLength (w .level) → w .slot ≡ 0
+    → heardInventory c (request w) ≡ turn (inStep (w .family) (w .level) (wholeMask w) (w .slot) c) (present (calls (w .family) w c))
 unfolding checkBytes
 request-heard c w h g e = go (hasFamily w) refl ∙ joined-turn c w e
   where
     n : ℕ
     n = maskLength (w .level)
 
-    go : (b : Bool) → hasFamily w ≡ b → heardInventory c (request w) ≡ joined (answers (w .family) c) (cleared c) n (w .mask)
+    go : (b : Bool) → hasFamily w ≡ b → heardInventory c (request w) ≡ joined (answers (w .family) c) (cleared c) n (wholeMask w)
     go true f =
         let same = family-request w f in
         ap (heardInventory c) same
         ∙ family-heard c _ (rw same at (request-sound w h))
-        ∙ family-parsed (cleared c) (w .family) n (w .mask) (checkBytes (requestBody w)) refl (mask-length-most (w .level) h) g
-        ∙ ap (λ (b : Bool). joined b (cleared c) n (w .mask)) (family-answers w c f)
+        ∙ family-parsed (cleared c) (w .family) n (wholeMask w) (checkBytes (requestBody w)) refl (mask-length-most (w .level) h) g
+        ∙ ap (λ (b : Bool). joined b (cleared c) n (wholeMask w)) (family-answers w c f)
     go false f =
         let same = none-request w f in
         ap (heardInventory c) same
         ∙ none-heard c _ (rw same at (request-sound w h))
-        ∙ none-parsed (cleared c) n (w .mask) (checkBytes (requestBody w)) refl (mask-length-most (w .level) h) g
-        ∙ ap (λ (b : Bool). joined b (cleared c) n (w .mask)) (none-answers w c f)
+        ∙ none-parsed (cleared c) n (wholeMask w) (checkBytes (requestBody w)) refl (mask-length-most (w .level) h) g
+        ∙ ap (λ (b : Bool). joined b (cleared c) n (wholeMask w)) (none-answers w c f)
 
 -- and the rules decide on just that, over any lock bytes
 pub request-decided : (c : Card) (locks : List ℕ) (w : Walk) → decided c locks (request w) ≡ leaving (heardInventory c (request w))

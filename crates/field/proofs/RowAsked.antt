@@ -11,7 +11,7 @@ use lib.ListN.{length}
 use Rattle.walk.specs.declared.Walk.{Walk}
 use Rattle.walk.specs.declared.Send.{Send}
 use Rattle.walk.specs.declared.Send.the-variants.{Nothing, Mark, Request}
-use Rattle.walk.specs.Record.{isAccepted, isRunning}
+use Rattle.walk.specs.Record.{wholeMask, isAccepted, isRunning}
 use Rattle.walk.specs.Ask.{request, sent, roomAsked, roomAfter, refusal, asking}
 use Rattle.walk.proofs.Limits.{Accepted}
 use Rattle.play.specs.Life.{Tag}
@@ -45,11 +45,11 @@ unfolding sent
 sent-mark w s running e = rw (running, ne-eqb (w .slot) 0 (λ z. omega arith))
 
 pub row-hears : (w : Walk) (ts₀ ts : List Tag) (room : List ℕ) → AllObey ts₀ → Accepted w → w .level < 16 → isRunning w ≡ true
-    → Before (w .family) (w .level) (w .mask) (w .slot) ts₀ ts → Both (Hears (w .family) w (sent w) (roomAfter w (sent w) room)) ts₀ ts
+    → Before (w .family) (w .level) (wholeMask w) (w .slot) ts₀ ts → Both (Hears (w .family) w (sent w) (roomAfter w (sent w) room)) ts₀ ts
 unfolding Before roomAfter
 row-hears w ts₀ ts room obey fits level running before = go (w .slot) refl before
   where
-    go : (s : ℕ) → w .slot ≡ s → Before (w .family) (w .level) (w .mask) s ts₀ ts
+    go : (s : ℕ) → w .slot ≡ s → Before (w .family) (w .level) (wholeMask w) s ts₀ ts
         → Both (Hears (w .family) w (sent w) (roomAfter w (sent w) room)) ts₀ ts
     go zero e b =
         rw (sent-request w running e)

@@ -8,6 +8,7 @@ use lib.Dec.{eqb}
 use lib.ListN.{length, take}
 use Rattle.card.specs.declared.Card.{Card}
 use Rattle.walk.specs.declared.Walk.{Walk}
+use Rattle.walk.specs.Record.{wholeMask}
 use Rattle.walk.specs.declared.Send.{Send}
 use Rattle.play.specs.Life.{Tag, tagAfter}
 use Rattle.field.specs.Field.{Obeys, reached, tagsAfter, replies}
@@ -24,11 +25,11 @@ module _ (family : ℕ) (w : Walk) (send : Send) (sent : List ℕ) where
     pub after : reached send sent t ≡ stepped family w t₀ (t .room)
     pub room : length (t .room) ≡ length (t₀ .room)
 
-  tag-at : (t₀ t : Tag) → Obeys t₀ → Hears t₀ t → AtSlot family (w .level) (w .mask) (w .slot) t₀ (tagAfter (reached send sent t))
+  tag-at : (t₀ t : Tag) → Obeys t₀ → Hears t₀ t → AtSlot family (w .level) (wholeMask w) (w .slot) t₀ (tagAfter (reached send sent t))
   tag-at t₀ t o h = rw (h .after) (stepped-at family w t₀ (t .room) o (h .room))
 
   pub row-at : (ts₀ ts : List Tag) → AllObey ts₀ → Both Hears ts₀ ts
-      → Both (AtSlot family (w .level) (w .mask) (w .slot)) ts₀ (tagsAfter send sent ts)
+      → Both (AtSlot family (w .level) (wholeMask w) (w .slot)) ts₀ (tagsAfter send sent ts)
   unfolding tagsAfter
   row-at [] [] demand.none none = none
   row-at (t₀ ∷ ts₀) (t ∷ ts) (demand.more o os) (more h hs) = more (tag-at t₀ t o h) (row-at ts₀ ts os hs)

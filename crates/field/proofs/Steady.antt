@@ -10,7 +10,7 @@ use Rattle.walk.specs.declared.Walk.{Walk}
 use Rattle.walk.specs.declared.Slot.{Slot}
 use Rattle.walk.specs.declared.Slot.the-variants.{Silent, Clashed, Clean}
 use Rattle.walk.specs.Marks.{withMark, withoutMark, lowest, deepest}
-use Rattle.walk.specs.Record.{mostRounds, maskLength, remade, startedOf, noMarks, counted, marked, atNextSlot, openedAt, opened}
+use Rattle.walk.specs.Record.{mostRounds, maskLength, wholeMask, remade, startedOf, noMarks, counted, marked, atNextSlot, openedAt, opened}
 use Rattle.walk.specs.Hear.{endsAtOnce, noted}
 use Rattle.walk.proofs.Limits.{Accepted}
 use Rattle.walk.proofs.Accepted.{started-facts, noted-facts, next-slot-facts, opened-facts}
@@ -24,7 +24,7 @@ pub record Steady (w : Walk) (t : ℕ) : Type 0 where
   pub none-ahead : (s : ℕ) → t ≤ s → s < 16 → wait (w .marks) (w .level) s ≡ 0
 
 -- the mask as a tail
-pub mask-tail : {w : Walk} {t : ℕ} → Steady w t → w .mask < 16 ^ w .level
+pub mask-tail : {w : Walk} {t : ℕ} → Steady w t → wholeMask w < 16 ^ w .level
 unfolding maskLength
 mask-tail {w} h = rw (digits-of-bits (w .level)) at (h .accepted .mask)
 

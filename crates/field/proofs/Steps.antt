@@ -2,7 +2,7 @@
 -- By the tests of hearing, one after the other. Assumes nothing.
 use mathlib.Core.Path.{_≡_, refl, ap, subst, _∙_}
 use mathlib.Core.Bool.{Bool, true, false, cond}
-use Prim.Native.Nat.{ℕ, zero, suc, _+_, _≤_, _<_}
+use Prim.Native.Nat.{ℕ, zero, suc, _+_, _-_, _*_, _%_, _^_, _≤_, _<_}
 use native.Mathlib.Numerals.{add-one}
 use native.Mathlib.Omega.{arith}
 use mathlib.Core.List.{List, [], _∷_}
@@ -12,11 +12,11 @@ use lib.ListN.{length}
 use Rattle.tails.specs.Sum.{tally, times}
 use Rattle.tails.specs.Tails.{ending}
 use Rattle.tails.proofs.Tally.{tally-one}
-use Rattle.tails.proofs.Apart.{ending-alike}
+use Rattle.tails.proofs.Apart.{ending-head, ending-alike}
 use Rattle.walk.specs.declared.Walk.{Walk}
 use Rattle.walk.specs.declared.Slot.{Slot}
 use Rattle.walk.specs.Marks.{deepest}
-use Rattle.walk.specs.Record.{levelsOf, mostRounds, complete, twins, full, remade, ended, atNextSlot, openedAt, opened}
+use Rattle.walk.specs.Record.{wholeMask, levelsOf, mostRounds, complete, twins, full, remade, ended, atNextSlot, openedAt, opened}
 use Rattle.walk.specs.Hear.{endsAtOnce, noted, turned, passed, walkAfter}
 use Rattle.field.proofs.WaitSums.{slotTail}
 use Rattle.field.proofs.Ahead.{ahead, ahead-none, ahead-hear}
@@ -26,12 +26,12 @@ use Rattle.field.proofs.FixedField.{Fixed, ending-fixed, note-fixed, ne
 use Rattle.field.proofs.NoOverrun.{rounds-below}
 use Rattle.field.proofs.Called.{called, slotOf}
 use Rattle.field.proofs.CalledWeights.{slot-weight}
-use Rattle.field.proofs.Next.{Suits, Verdict, completes, twin, fills, Kept, Next, moves, opens, stops, kept, noted-kept, noted-ending}
+use Rattle.field.proofs.Next.{Suits, suits-apart, Verdict, completes, twin, fills, Kept, Next, moves, opens, stops, kept, noted-kept, noted-ending}
 
 -- the next slot
 moves-after : {levels fewest : ℕ} (us : List ℕ) (w x : Walk) (ls : List ℕ) → x .slot ≡ w .slot → Fixed levels us x ls (suc (w .slot)) → Kept w x
     → x .ending ≡ w .ending → x .slot < 15 → Next levels fewest us w (atNextSlot x) ls
-unfolding atNextSlot remade
+unfolding atNextSlot remade wholeMask
 moves-after us w x ls s g k e h =
     moves (next-fixed us x ls (suc (w .slot)) h g) (rw (← s) h) (k .level) (k .mask) (add-one (x .slot) ∙ ap suc s) (k .family) e (k .rounds)
 
@@ -88,7 +88,7 @@ fills-at us x w ls h g c m =
     let v : ℕ → ℕ = λ u. 1 in
     let all : tally v ls + ahead (weigh v us) w (w .slot) ≡ tally v us = g .weighed v in
     let heard = ahead-hear (weigh v us) w (w .slot) h in
-    let weight : weigh v us (suc (w .level)) (slotTail (w .level) (w .mask) (w .slot)) ≡ 1 = slot-weight v us (x ∷ []) w c in
+    let weight : weigh v us (suc (w .level)) (slotTail (w .level) (wholeMask w) (w .slot)) ≡ 1 = slot-weight v us (x ∷ []) w c in
     let listed : tally v ls ≡ w .count = tally-one ls ∙ g .walks .number in
     let number : tally v us ≡ length us = tally-one us in
     stops g (kept w) 2 refl (fills refl (omega (arith, all, heard, weight, listed, number)))
@@ -96,14 +96,17 @@ fills-at us x w ls h g c m =
 -- a clash at the last level: the slot's tail has all the digits that tell the UIDs apart
 twins-at : {levels fewest : ℕ} (us : List ℕ) (x y : ℕ) (xs : List ℕ) (w : Walk) (ls : List ℕ) → Suits levels us → w .slot < 16
     → Fixed levels us w ls (w .slot) → called us w ≡ x ∷ y ∷ xs → length (w .marks) ≤ w .level + 1 → Next levels fewest us w (ended twins w) ls
-unfolding ended remade called
+unfolding ended remade wholeMask called
 twins-at {levels} us x y xs w ls suits h g c m =
-    let tail : ℕ = slotTail (w .level) (w .mask) (w .slot) in
+    let tail : ℕ = slotTail (w .level) (wholeMask w) (w .slot) in
     let last : levels ≡ suc (w .level) = let least = g .walks .steady .accepted .level in omega (arith, least, g .walks .marks-length) in
     let same : ending levels tail us ≡ x ∷ y ∷ xs = ap (λ (n : ℕ). ending n tail us) last ∙ c in
-    let alike : times x us ≡ length (ending levels tail us) = ending-alike us (y ∷ xs) levels tail x (suits .apart) same in
+    let alike : times x us ≡ length (ending levels tail us) = ending-alike us (y ∷ xs) levels tail x (suits-apart suits) same in
     let two : length (ending levels tail us) ≡ suc (suc (length xs)) = ap (λ (l : List ℕ). length l) same in
-    stops g (kept w) 1 refl (twin refl x (omega (arith, alike, two)))
+    let before : levels - 1 ≡ w .level = omega (arith, last) in
+    let told : x % 16 ^ suc (levels - 1) ≡ wholeMask w + w .slot * 16 ^ (levels - 1) =
+    rw before (ending-head (suc (w .level)) tail x us (y ∷ xs) c) in
+    stops g (kept w) 1 refl (twin refl (record { uid = x; twice = omega (arith, alike, two); told = told }))
 
 -- it ends the walk at once
 stops-at-once : {levels fewest : ℕ} (us xs : List ℕ) (w : Walk) (ls : List ℕ) (place : Bool) → Suits levels us → w .slot < 16

@@ -1,8 +1,8 @@
 -- A walk over cards is the walk over the UIDs of those that answer: slot by slot, the list and the record, so that a field can be worked out.
 -- By the stages of the walk. Assumes nothing.
-use mathlib.Core.Path.{_≡_, refl, ap, _∙_}
+use mathlib.Core.Path.{_≡_, refl, ap, subst⁻¹, _∙_}
 use mathlib.Core.Bool.{false, cond}
-use Prim.Native.Nat.{ℕ, zero, suc, _+_, _≤_}
+use Prim.Native.Nat.{ℕ, zero, suc, _+_}
 use native.Mathlib.Nat.{zero-add, suc-add}
 use mathlib.Core.List.{List}
 use Rattle.walk.specs.declared.Walk.{Walk}
@@ -13,7 +13,7 @@ use Rattle.field.specs.Field.{answering}
 use Rattle.field.specs.Played.{Play, slotPlayed, playedForBy, playedFor}
 use Rattle.field.specs.Found.{listed}
 use Rattle.field.specs.Demand.{AllObey}
-use Rattle.field.proofs.Called.{called, slotOf}
+use Rattle.field.proofs.Called.{called, slotOf, Starts}
 use Rattle.field.proofs.Accepted.{walks-accepted, walks-level}
 use Rattle.field.proofs.Next.{Suits}
 use Rattle.field.proofs.PlayedSlot.{SlotPlayed, slot-played, ended-played}
@@ -51,16 +51,18 @@ stood-ended us (suc n) s e = rw e (stood-ended us n s e)
 abbrev pub standOf : Play → Stand
 standOf p = record { walk = p .walk; list = p .list }
 
-slot-stood : {levels : ℕ} (family : ℕ) (tags : List Tag) (n : ℕ) (p : Play) → AllObey tags → levels ≤ 16 → Stage levels family tags (answering family tags) n p
+slot-stood : {levels : ℕ} (family : ℕ) (tags : List Tag) (n : ℕ) (p : Play) → AllObey tags → Suits levels (answering family tags)
+    → Stage levels family tags (answering family tags) n p
     → standOf (slotPlayed p) ≡ stood (answering family tags) (standOf p)
 unfolding stood
-slot-stood family tags n p obey most (hears places g h e f room count row) =
+slot-stood {levels} family tags n p obey fit (hears places g h e f room count row) =
     let w : Walk = p .walk in
     let ls : List ℕ = listed w (p .list) in
     let played : SlotPlayed family tags p (slotPlayed p) =
-    slot-played family tags p obey (walks-accepted w ls (w .slot) h (g .walks)) (walks-level w ls (w .slot) most (g .walks)) (running-of w e) f places room row in
+    slot-played family tags p obey (subst⁻¹ (λ (k : ℕ). Starts k (answering family tags)) (g .walks .marks-length) (fit .starts))
+    (walks-accepted w ls (w .slot) h (g .walks)) (walks-level w ls (w .slot) (fit .most) (g .walks)) (running-of w e) f places room row in
     rw (running-of w e) (λ i. record { walk = played .walk i; list = played .list i })
-slot-stood family tags n p obey most (rests places a r v row) = rw (r, ended-played p a r)
+slot-stood family tags n p obey fit (rests places a r v row) = rw (r, ended-played p a r)
 
 pub played-stood : {levels : ℕ} (family : ℕ) (tags : List Tag) (n m : ℕ) (p : Play) → AllObey tags → Suits levels (answering family tags)
     → Stage levels family tags (answering family tags) m p → standOf (playedFor n p) ≡ stoodFor (answering family tags) n (standOf p)
@@ -68,4 +70,4 @@ unfolding playedForBy stoodFor
 played-stood family tags zero m p obey fit s = refl
 played-stood family tags (suc n) m p obey fit s =
     played-stood family tags n (suc m) (slotPlayed p) obey fit (stage-slot family tags m p obey fit s)
-    ∙ ap (stoodFor (answering family tags) n) (slot-stood family tags m p obey (fit .most) s)
+    ∙ ap (stoodFor (answering family tags) n) (slot-stood family tags m p obey fit s)

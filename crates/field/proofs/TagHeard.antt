@@ -21,7 +21,7 @@ use Rattle.play.specs.Events.{Outcome, replied, carriedOut, frameEvent, markEve
 use Rattle.play.proofs.EventWays.{event-served}
 use Rattle.walk.specs.declared.Walk.{Walk}
 use Rattle.walk.specs.declared.Send.the-variants.{Mark, Request}
-use Rattle.walk.specs.Record.{maskLength}
+use Rattle.walk.specs.Record.{maskLength, wholeMask}
 use Rattle.walk.specs.Ask.{request}
 use Rattle.play.specs.Life.{Tag}
 use Rattle.field.specs.Field.{Obeys, reached}
@@ -33,14 +33,14 @@ use Rattle.field.proofs.InStep.{served-same, cleared-blocks, cleared-si
 -- what becomes of a tag t of the start, over its room as found
 unfoldable pub stepped : ℕ → Walk → Tag → List ℕ → Outcome
 stepped family w t found =
-    replied (inStep family (w .level) (w .mask) (w .slot) (t .card)) (t .memory) (t .locks) (present (calls family w (t .card))) found
+    replied (inStep family (w .level) (wholeMask w) (w .slot) (t .card)) (t .memory) (t .locks) (present (calls family w (t .card))) found
 
 -- ---- a request
 
 frame-heard : (c card : Card) (w : Walk) (memory locks found : List ℕ) → refusal card (length memory) locks (length found) ≡ 0
-    → cleared card ≡ cleared c → w .level < 16 → w .mask < 2 ^ maskLength (w .level) → w .slot ≡ 0
+    → cleared card ≡ cleared c → w .level < 16 → wholeMask w < 2 ^ maskLength (w .level) → w .slot ≡ 0
     → frameEvent card (request w) memory locks found
-    ≡ replied (inStep (w .family) (w .level) (w .mask) (w .slot) c) memory locks (present (calls (w .family) w c)) found
+    ≡ replied (inStep (w .family) (w .level) (wholeMask w) (w .slot) c) memory locks (present (calls (w .family) w c)) found
 unfolding frameEvent carriedOut memoryAfter locksAfter
 frame-heard c card w memory locks found served same h g e =
     event-served card memory locks found _ 0 (sym served) refl
@@ -53,7 +53,7 @@ follows-served t₀ t o f =
     (served-same (t₀ .card) (t .card) (length (t₀ .memory)) (t₀ .locks) (length (t₀ .room))
     (cleared-blocks (t₀ .card) (t .card) (f .card)) (cleared-size (t₀ .card) (t .card) (f .card)) (f .accepted) (o .accepted))
 
-pub request-reached : (w : Walk) (room : List ℕ) (t₀ t : Tag) → w .level < 16 → w .mask < 2 ^ maskLength (w .level) → w .slot ≡ 0 → Obeys t₀
+pub request-reached : (w : Walk) (room : List ℕ) (t₀ t : Tag) → w .level < 16 → wholeMask w < 2 ^ maskLength (w .level) → w .slot ≡ 0 → Obeys t₀
     → Follows t₀ t → reached (Request (length (request w))) (over (request w) room) t ≡ stepped (w .family) w t₀ (t .room)
 unfolding reached stepped
 request-reached w room t₀ t h g e o f =
@@ -62,11 +62,11 @@ request-reached w room t₀ t h g e o f =
 
 -- ---- a slot mark
 
-pub mark-reached : (family : ℕ) (w : Walk) (s : ℕ) (sent : List ℕ) (t₀ t : Tag) → w .level < 16 → w .mask < 2 ^ maskLength (w .level)
-    → w .slot ≡ suc s → s < 15 → Obeys t₀ → AtSlot family (w .level) (w .mask) s t₀ t → reached Mark sent t ≡ stepped family w t₀ (t .room)
+pub mark-reached : (family : ℕ) (w : Walk) (s : ℕ) (sent : List ℕ) (t₀ t : Tag) → w .level < 16 → wholeMask w < 2 ^ maskLength (w .level)
+    → w .slot ≡ suc s → s < 15 → Obeys t₀ → AtSlot family (w .level) (wholeMask w) s t₀ t → reached Mark sent t ≡ stepped family w t₀ (t .room)
 unfolding reached stepped markEvent
 mark-reached family w s sent t₀ t h g e f o a =
-    let follows : Follows t₀ t = slot-follows family (w .level) (w .mask) s t₀ t h (omega arith) g o a in
+    let follows : Follows t₀ t = slot-follows family (w .level) (wholeMask w) s t₀ t h (omega arith) g o a in
     rw (a .memory, a .locks)
     (event-served (t .card) (t₀ .memory) (t₀ .locks) (t .room) _ 0 (sym (follows-served t₀ t o follows)) refl
     ∙ ap (λ (u : Turn). replied (u .card) (t₀ .memory) (t₀ .locks) (u .reply) (t .room)) (ap marked (a .card) ∙ mark-heard family w s (t₀ .card) e f))

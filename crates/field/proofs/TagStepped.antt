@@ -16,6 +16,7 @@ use Rattle.play.specs.Events.{lengthTold, answered, replied}
 use Rattle.play.proofs.Answers.{length-presence}
 use Rattle.play.proofs.EventWays.{told-length, told-silence, answered-bytes, answered-silence}
 use Rattle.walk.specs.declared.Walk.{Walk}
+use Rattle.walk.specs.Record.{wholeMask}
 use Rattle.play.specs.Life.{Tag, tagAfter}
 use Rattle.field.specs.Field.{Obeys}
 use Rattle.field.proofs.InTime.{inStep, calls, AtSlot}
@@ -47,10 +48,10 @@ module _ (c : Card) (memory locks found : List ℕ) where
 
 module _ (family : ℕ) (w : Walk) (t₀ : Tag) (found : List ℕ) where
   pub stepped-at : Obeys t₀ → length found ≡ length (t₀ .room)
-      → AtSlot family (w .level) (w .mask) (w .slot) t₀ (tagAfter (stepped family w t₀ found))
+      → AtSlot family (w .level) (wholeMask w) (w .slot) t₀ (tagAfter (stepped family w t₀ found))
   unfolding stepped replied tagAfter
   stepped-at o e =
-      let card : Card = inStep family (w .level) (w .mask) (w .slot) (t₀ .card) in
+      let card : Card = inStep family (w .level) (wholeMask w) (w .slot) (t₀ .card) in
       let least : 32 ≤ length (t₀ .room) = served-room (t₀ .card) (length (t₀ .memory)) (t₀ .locks) (length (t₀ .room)) (o .accepted) in
       record {
         card = refl;
@@ -61,10 +62,10 @@ module _ (family : ℕ) (w : Walk) (t₀ : Tag) (found : List ℕ) where
 
   pub stepped-told : stepped family w t₀ found .told ≡ cond (calls family w (t₀ .card)) 12 0
   unfolding stepped replied
-  stepped-told = said-length (inStep family (w .level) (w .mask) (w .slot) (t₀ .card)) (t₀ .memory) (t₀ .locks) found (calls family w (t₀ .card))
+  stepped-told = said-length (inStep family (w .level) (wholeMask w) (w .slot) (t₀ .card)) (t₀ .memory) (t₀ .locks) found (calls family w (t₀ .card))
 
   pub stepped-bytes : calls family w (t₀ .card) ≡ true → take 12 (stepped family w t₀ found .answer) ≡ message (t₀ .card)
   unfolding stepped replied present
   stepped-bytes e =
-      rw e (said-bytes (inStep family (w .level) (w .mask) (w .slot) (t₀ .card)) (t₀ .memory) (t₀ .locks) found
-      ∙ step-message family (w .level) (w .mask) (w .slot) (t₀ .card))
+      rw e (said-bytes (inStep family (w .level) (wholeMask w) (w .slot) (t₀ .card)) (t₀ .memory) (t₀ .locks) found
+      ∙ step-message family (w .level) (wholeMask w) (w .slot) (t₀ .card))

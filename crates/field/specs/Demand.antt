@@ -1,4 +1,4 @@
--- Demand 3: a fresh walk over a field of cards, and what it leaves of them.
+-- Demand 3, as 02, W6, has it: a fresh walk over a field of cards, and what it leaves of them.
 use Prim.Native.Nat.{ℕ, suc, _+_, _*_, _≤_}
 use mathlib.Core.Bool.{true, false, cond}
 use mathlib.Core.List.{List, [], _∷_}
@@ -8,11 +8,11 @@ use Rattle.card.specs.declared.Card.{Card}
 use Rattle.card.specs.declared.Sequence.the-variants.{Running}
 use Rattle.card.specs.Record.{cleared, inSequence}
 use Rattle.walk.specs.declared.Walk.{Walk}
-use Rattle.walk.specs.Record.{maskLength, isRunning}
+use Rattle.walk.specs.Record.{maskLength, wholeMask, isRunning}
 use Rattle.play.specs.Life.{Tag}
 use Rattle.field.specs.Field.{Obeys, answers, answering}
 use Rattle.field.specs.Played.{Play, playedFor, fresh}
-use Rattle.field.specs.Found.{FoundIn}
+use Rattle.field.specs.Found.{BeginE0, FoundIn}
 
 -- every card of a field obeys
 pub data AllObey : List Tag → Type 0 where
@@ -21,7 +21,7 @@ pub data AllObey : List Tag → Type 0 where
 
 -- a card that takes part has a sequence with the walk's own mask length, mask and slot, any other has none; no answer is held
 unfoldable pub cardLeft : ℕ → Walk → Card → Card
-cardLeft family w c = cond (answers family c) (inSequence (Running (w .slot) (maskLength (w .level)) (w .mask)) (cleared c)) (cleared c)
+cardLeft family w c = cond (answers family c) (inSequence (Running (w .slot) (maskLength (w .level)) (wholeMask w)) (cleared c)) (cleared c)
 
 unfoldable pub cardsLeft : ℕ → Walk → List Tag → List Card
 cardsLeft family w [] = []
@@ -48,15 +48,16 @@ pub record Demand3In (digits family : ℕ) (tags : List Tag) (us : List ℕ) (p 
   pub memories-left : memories (p .tags) ≡ memories tags
   pub locks-left : lockBytes (p .tags) ≡ lockBytes tags
 
--- "tails of 1 to 15 digits": the first part is `Found us`
+-- 02, W6: "tails of 1 to 13 digits": the first part is `Found us`
 abbrev pub Demand3 : ℕ → List Tag → List ℕ → Play → Type 0
-Demand3 family tags us p = Demand3In 15 family tags us p
+Demand3 family tags us p = Demand3In 13 family tags us p
 
--- Demand 3 gives the walk no number of slots to end in. Ours is 16 × 481: 16 slots for each round that a walk may have
+-- 02, W6: "demand 3 takes 'every answering UID begins with E0' as a premise". It gives the walk no number of slots to end in. Ours is 16 × 417: 16
+-- slots for each round that a walk may have
 unfoldable pub demand3 : Type 0
 demand3 =
-    (family : ℕ) (tags : List Tag) (list room : List ℕ) → AllObey tags → 64 ≤ length list → 14 ≤ length room
-    → Demand3 family tags (answering family tags) (playedFor (16 * 481) (fresh family list room tags))
+    (family : ℕ) (tags : List Tag) (list room : List ℕ) → AllObey tags → BeginE0 (answering family tags) → 64 ≤ length list → 14 ≤ length room
+    → Demand3 family tags (answering family tags) (playedFor (16 * 417) (fresh family list room tags))
 
 -- 01, Form by location: "The round count stands in the walk and equals the rounds of the definition." A round has sixteen slots and the first is round
 -- 1: after n slots a walk that still runs is in the round and in the slot that n gives

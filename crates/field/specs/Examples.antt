@@ -18,12 +18,12 @@ three = 0xe004010000000011 ∷ 0xe004010000000021 ∷ 0xe004010000000005 ∷ []
 
 -- the walk at its end, after the round of mask 1
 abbrev pub threeEnd : ℕ → Walk
-threeEnd family = record { mask = 1; marks = noMarks levels; rounds = 2; family = family; level = 1; slot = 15; count = 3; ending = complete }
+threeEnd family = record { «mask_low» = 1; «mask_high» = 0; marks = noMarks levels; rounds = 2; family = family; level = 1; slot = 15; count = 3; ending = complete }
 
 pub record FieldOfThree : Type 0 where
   pub ends : (family : ℕ) (tags : List Tag) (list room : List ℕ) → AllObey tags → 64 ≤ length list → 14 ≤ length room
-      → answering family tags ≡ three → playedFor (16 * 481) (fresh family list room tags) .walk ≡ threeEnd family
+      → answering family tags ≡ three → playedFor (16 * 417) (fresh family list room tags) .walk ≡ threeEnd family
   pub lists : (family : ℕ) (tags : List Tag) (list room : List ℕ) → AllObey tags → 64 ≤ length list → 14 ≤ length room
       → answering family tags ≡ three
-      → let p : Play = playedFor (16 * 481) (fresh family list room tags) in
+      → let p : Play = playedFor (16 * 417) (fresh family list room tags) in
       listed (p .walk) (p .list) ≡ 0xe004010000000005 ∷ 0xe004010000000011 ∷ 0xe004010000000021 ∷ []

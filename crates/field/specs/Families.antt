@@ -16,6 +16,7 @@ use Rattle.play.specs.Life.{Tag}
 use Rattle.play.specs.Examples.{Listens, blank, silence, presents}
 use Rattle.field.specs.Field.{listens}
 use Rattle.field.specs.Played.{playedFor, fresh}
+use Rattle.field.specs.Found.{BeginE0}
 use Rattle.field.specs.Demand.{AllObey, Demand3}
 
 -- an inventory request that names an AFI, but for the AFI: one slot or sixteen, the two radio bits, the mask's length, and "the mask in as few bytes as
@@ -72,8 +73,9 @@ pub record Families : Type 0 where
   pub only-03 : (q : Calling) (c : Card) (memory locks found : List ℕ) → Listens c memory locks found
       → frameEvent c (calling q 0x03) memory locks found
       ≡ cond (eqb 0x03 (c .afi)) (tookPart q c memory locks found) (passedOver c memory locks found)
-  -- "Shops give coarse burrs AFI 31, 32, 33 and ask the rack for family 30.": with a tool of AFI 41 among them, demand 3 holds of just these three
+  -- "Shops give coarse burrs AFI 31, 32, 33 and ask the rack for family 30.": with a tool of AFI 41 among them, whatever its UID begins with, demand 3 holds of just these three
   pub coarse-burrs : (a b other c : Tag) → ListensOf 0x31 a → ListensOf 0x32 b → ListensOf 0x41 other → ListensOf 0x33 c
-      → (list room : List ℕ) → AllObey (a ∷ b ∷ other ∷ c ∷ []) → 64 ≤ length list → 14 ≤ length room
+      → (list room : List ℕ) → AllObey (a ∷ b ∷ other ∷ c ∷ []) → BeginE0 (a .card .uid ∷ b .card .uid ∷ c .card .uid ∷ []) → 64 ≤ length list
+      → 14 ≤ length room
       → Demand3 0x30 (a ∷ b ∷ other ∷ c ∷ []) (a .card .uid ∷ b .card .uid ∷ c .card .uid ∷ [])
-      (playedFor (16 * 481) (fresh 0x30 list room (a ∷ b ∷ other ∷ c ∷ [])))
+      (playedFor (16 * 417) (fresh 0x30 list room (a ∷ b ∷ other ∷ c ∷ [])))

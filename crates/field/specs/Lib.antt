@@ -4,5 +4,7 @@ pub mod Played
 pub mod Found
 pub mod Replies
 pub mod Demand
+pub mod TwoLevels
+pub mod Foreign
 pub mod Examples
 pub mod Families
