@@ -2,7 +2,7 @@
 -- By induction over the cards, and demand 3 for any air that brings what some UIDs bring. Assumes nothing.
 use mathlib.Core.Path.{_≡_, refl, sym, ap, ap₂, _∙_}
 use mathlib.Core.Bool.{Bool, true, false, cond, _&&_, _||_}
-use Prim.Native.Nat.{ℕ, _/_, _%_, _^_, _<_}
+use Prim.Native.Nat.{ℕ, _/_, _%_, _^_, _≤_, _<_}
 use native.Mathlib.Omega.{arith}
 use mathlib.Core.List.{List, [], _∷_}
 use lib.ListN.{getD}
@@ -14,6 +14,7 @@ use Rattle.frames.specs.Field.{fieldBytes}
 use Rattle.frames.specs.Frame.{shortestAnswer, longestAnswer}
 use Rattle.frames.proofs.Fields.{field-bytes-are-bytes}
 use Rattle.slots.specs.Fits.{fitsSlot}
+use Rattle.tails.specs.Sum.{tally, times}
 use Rattle.coil.specs.Read.{Codable}
 use Rattle.coil.specs.Overlay.{Answers}
 use Rattle.coil.specs.Overlay as coil
@@ -21,20 +22,24 @@ use Rattle.card.specs.declared.Card.{Card}
 use Rattle.play.specs.Life.{Tag}
 use Rattle.play.specs.Answer.{presence}
 use Rattle.walk.specs.declared.Walk.{Walk}
-use Rattle.walk.specs.Record.{maskLength}
+use Rattle.walk.specs.Marks.{levels}
+use Rattle.walk.specs.Record.{maskLength, wholeMask}
 use Rattle.walk.specs.Hear.{uidOf}
-use Rattle.field.specs.Field.{answers, answering}
+use Rattle.field.specs.Field.{answers, answering, arrives}
+use Rattle.field.specs.Found.{BeginE0}
+use Rattle.field.specs.Foreign.{asHeard}
 use Rattle.field.specs.Demand.{AllObey}
 use Rattle.field.specs.Demand as demand
 use Rattle.field.proofs.InTime.{calls}
 use Rattle.field.proofs.Reply.{message, message-bytes, length-message, message-uid, message-dsfid}
 use Rattle.field.proofs.Callers.{callers, messages}
 use Rattle.field.proofs.PlayedSlot.{Brings, arrives-brings}
-use Rattle.field.proofs.Suited.{uids-suit}
+use Rattle.field.proofs.Suited.{e0-suit}
 use Rattle.field.proofs.Demand3.{walk-of-an-air}
+use Rattle.field.proofs.Foreign.{as-heard-begin, any-brings, any-found}
 use Rattle.chorus.specs.Air.{coilAir, sameBytes, isRepeated, differentRows, coilArrives}
 use Rattle.chorus.specs.Different.{Said, said, alike, saidBy, isAmong, distinct, differentAnswers, uidsOf}
-use Rattle.chorus.specs.Demand.{DsfidsFit, none, more, onCoilPlayed, coilDemand3}
+use Rattle.chorus.specs.Demand.{DsfidsFit, none, more, onCoilPlayed, coilDemand3, coilAnyUids}
 use Rattle.chorus.proofs.Air.{same-self, same-true, coil-arrives}
 use Rattle.chorus.proofs.Different.{saying, alike-self, alike-true}
 
@@ -52,6 +57,23 @@ apart-obey family (t ∷ ts) (demand.more o os) =
     go : (b : Bool) → AllObey (apart family ts) → AllObey (cond b (apart family ts) (t ∷ apart family ts))
     go true rest = rest
     go false rest = demand.more o rest
+
+-- where all begin with E0 these do
+apart-few : (family : ℕ) (ts : List Tag) (u : ℕ) → times u (answering family (apart family ts)) ≤ times u (answering family ts)
+unfolding apart answering times tally
+apart-few family [] u = omega arith
+apart-few family (t ∷ ts) u = go (answers family (t .card)) (isAmong (said (t .card)) (saidBy family ts)) refl (apart-few family ts u)
+  where
+    go : (a s : Bool) → answers family (t .card) ≡ a → times u (answering family (apart family ts)) ≤ times u (answering family ts)
+        → times u (answering family (cond (a && s) (apart family ts) (t ∷ apart family ts)))
+        ≤ times u (cond a (t .card .uid ∷ answering family ts) (answering family ts))
+    go true true p rest = omega arith
+    go true false p rest = rw p (omega arith)
+    go false s p rest = rw p rest
+
+apart-begin : (family : ℕ) (ts : List Tag) → BeginE0 (answering family ts) → BeginE0 (answering family (apart family ts))
+unfolding BeginE0
+apart-begin family ts begin u h = begin u (omega (arith, h, apart-few family ts u))
 
 -- their UIDs are those of the different answers
 answering-apart : (family : ℕ) (ts : List Tag) → answering family (apart family ts) ≡ uidsOf (differentAnswers family ts)
@@ -91,14 +113,14 @@ message-alike c d h g =
 
 module _ (family : ℕ) (w : Walk) where
   abbrev fits : Card → Bool
-  fits c = fitsSlot (c .uid) (maskLength (w .level)) (w .mask) (w .slot)
+  fits c = fitsSlot (c .uid) (maskLength (w .level)) (wholeMask w) (w .slot)
 
   -- cards alike fit the same slots
   unlike : (c d : Card) → fits c ≡ true → fits d ≡ false → alike (said c) (said d) ≡ false
   unlike c d h g = go (alike (said c) (said d)) refl
     where
       go : (b : Bool) → alike (said c) (said d) ≡ b → b ≡ false
-      go true e = sym h ∙ ap (λ (a : Said). fitsSlot (a .uid) (maskLength (w .level)) (w .mask) (w .slot)) (alike-true (said c) (said d) e) ∙ g
+      go true e = sym h ∙ ap (λ (a : Said). fitsSlot (a .uid) (maskLength (w .level)) (wholeMask w) (w .slot)) (alike-true (said c) (said d) e) ∙ g
       go false e = refl
 
   repeated-among : (c : Card) (ts : List Tag) → AllObey ts → c .uid < 2 ^ 64 → fits c ≡ true
@@ -161,20 +183,29 @@ callers-answer family w (t ∷ ts) (more h hs) = go (calls family w (t .card)) (
 
 -- ---- demand 3
 
-coil-brings : (family : ℕ) (tags : List Tag) → AllObey tags → DsfidsFit tags
-    → Brings coilAir (uidsOf (differentAnswers family tags)) family tags
+-- what the coil brings of all cards is what 01's air brings of those that are left
+coil-brings-apart : (us : List ℕ) (family : ℕ) (tags : List Tag) → AllObey tags → DsfidsFit tags → Brings arrives levels us family (apart family tags)
+    → Brings coilAir levels us family tags
 unfolding coilArrives
-coil-brings family tags obey marked w same accepted =
-    rw (
-      coil-arrives (messages (callers family w tags)) (callers-answer family w tags marked),
-      different-callers family w tags obey,
-      ← answering-apart family tags,
-    )
-    (arrives-brings family (apart family tags) (apart-obey family tags obey) w same accepted)
+coil-brings-apart us family tags obey marked brings w long same accepted =
+    rw (coil-arrives (messages (callers family w tags)) (callers-answer family w tags marked), different-callers family w tags obey)
+    (brings w long same accepted)
 
 pub coil-demand3 : coilDemand3
 unfolding coilDemand3 onCoilPlayed
-coil-demand3 family tags list room obey marked places fits =
-    walk-of-an-air coilAir (uidsOf (differentAnswers family tags)) family tags list room
-    (rw (← answering-apart family tags) (uids-suit family (apart family tags) (apart-obey family tags obey) .apart)) obey
-    (coil-brings family tags obey marked) places fits
+coil-demand3 family tags list room obey marked begin places fits =
+    let us : List ℕ = answering family (apart family tags) in
+    let begins : BeginE0 us = apart-begin family tags begin in
+    let brings : Brings arrives levels us family (apart family tags) =
+    arrives-brings levels family (apart family tags) (apart-obey family tags obey) (e0-suit us begins .starts) in
+    rw (← answering-apart family tags)
+    (walk-of-an-air coilAir us family tags list room begins obey (coil-brings-apart us family tags obey marked brings) places fits)
+
+pub coil-any-uids : coilAnyUids
+unfolding coilAnyUids onCoilPlayed
+coil-any-uids family tags list room obey marked places fits =
+    let us : List ℕ = answering family (apart family tags) in
+    rw (← answering-apart family tags)
+    (any-found us _ _
+    (walk-of-an-air coilAir (asHeard us) family tags list room (as-heard-begin us) obey
+    (coil-brings-apart (asHeard us) family tags obey marked (any-brings family (apart family tags) (apart-obey family tags obey))) places fits .found))

@@ -1,7 +1,7 @@
 -- Two cards on the coil, by demand 3 there and by what twins mean; the numbers by computation. Assumes nothing.
 use mathlib.Core.Path.{_≡_, refl, ap, ap₂, _∙_}
 use mathlib.Core.Bool.{Bool, true, false, cond, _||_}
-use Prim.Native.Nat.{ℕ, _+_, _≤_}
+use Prim.Native.Nat.{ℕ, _+_, _/_, _^_, _≤_}
 use native.Mathlib.Omega.{arith}
 use mathlib.Core.List.{[], _∷_}
 use borrow.Author.Tests.{lt-ltb, le-ltb}
@@ -10,9 +10,10 @@ use lib.ListN.{length}
 use Rattle.tails.specs.Sum.{one, tally, times}
 use Rattle.walk.specs.Record.{complete}
 use Rattle.play.specs.Life.{Tag}
-use Rattle.field.specs.Field.{answers}
-use Rattle.field.specs.Found.{Different, Found}
+use Rattle.field.specs.Field.{answers, answering}
+use Rattle.field.specs.Found.{Different, BeginE0, Found}
 use Rattle.field.specs.Played.{Play}
+use Rattle.field.proofs.Suited.{begin-none, begin-more}
 use Rattle.chorus.specs.Air.{heardBy}
 use Rattle.chorus.specs.Different.{said, alike, saidBy, isAmong, distinct, differentAnswers, uidsOf, here, there}
 use Rattle.chorus.specs.Demand.{UnlikeTwins, coilDemand3, coilTwins}
@@ -44,6 +45,10 @@ found-one u p found =
 -- ---- two cards
 
 module _ (family : ℕ) (a b : Tag) (p : answers family (a .card) ≡ true) (q : answers family (b .card) ≡ true) where
+  two-begin : b .card .uid / 2 ^ 56 ≡ 0xe0 → a .card .uid ≡ b .card .uid → BeginE0 (answering family (a ∷ b ∷ []))
+  unfolding answering
+  two-begin e u = rw (p, q) (begin-more (a .card .uid) (b .card .uid ∷ []) (rw u e) (begin-more (b .card .uid) [] e begin-none))
+
   two-said : differentAnswers family (a ∷ b ∷ [])
       ≡ cond (alike (said (a .card)) (said (b .card)) || false) (said (b .card) ∷ []) (said (a .card) ∷ said (b .card) ∷ [])
   unfolding differentAnswers saidBy distinct isAmong
@@ -76,10 +81,12 @@ pub coil-fields : CoilFields
 unfolding coilDemand3 coilTwins uidsOf heardBy
 coil-fields =
     record {
-      two-alike = λ family a b list room obey fit places wide p q u d.
-          found-one (b .card .uid) _ (rw (one-said family a b p q u d) at (coil-demand3 family (a ∷ b ∷ []) list room obey fit places wide .found));
-      two-dsfids = λ family a b list room obey fit places wide p q u d.
-          coil-twins family (a ∷ b ∷ []) list room obey fit places wide .differ-twins (few-said family a b p q) (unlike family a b p q u d);
+      two-alike = λ family a b list room obey fit places wide p q e u d.
+          found-one (b .card .uid) _
+          (rw (one-said family a b p q u d) at (coil-demand3 family (a ∷ b ∷ []) list room obey fit (two-begin family a b p q e u) places wide .found));
+      two-dsfids = λ family a b list room obey fit places wide p q e u d.
+          coil-twins family (a ∷ b ∷ []) list room obey fit (two-begin family a b p q e u) places wide .differ-twins (few-said family a b p q)
+          (unlike family a b p q u d);
       answer-told = λ n left h. rw (lt-ltb n 131072 h);
       bad-told = λ n left h. rw (le-ltb n 131072 h);
       refusal-told = λ n left. refl;

@@ -132,11 +132,11 @@ module _ (family : ℕ) (tags : List Tag) where
 
 pub coil-twins : coilTwins
 unfolding coilTwins coilDemand3 Different
-coil-twins family tags list room obey marked places fits =
-    let found = coil-demand3 family tags list room obey marked places fits .found in
+coil-twins family tags list room obey marked begin places fits =
+    let found = coil-demand3 family tags list room obey marked begin places fits .found in
     let long : length (uidsOf (differentAnswers family tags)) ≡ length (differentAnswers family tags) = length-uids (differentAnswers family tags) in
     record {
-      twins-differ = λ e. unlike-of-two family tags (found .twins-alike e .0) (found .twins-alike e .1);
+      twins-differ = λ e. unlike-of-two family tags (found .twins-alike e .uid) (found .twins-alike e .twice);
       differ-twins = λ few t. found .alike (rw long few) (λ once. absurd (omega (arith, once (t .uid), two-of-unlike family tags t)));
       else-completes = λ few h. found .completes (rw long few) (different-of-none family tags h);
     }

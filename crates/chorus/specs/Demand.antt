@@ -7,8 +7,11 @@ use lib.ListN.{length}
 use Rattle.walk.specs.declared.Walk.{Walk}
 use Rattle.walk.specs.Record.{complete, twins}
 use Rattle.play.specs.Life.{Tag}
+use Rattle.field.specs.Field.{answering}
 use Rattle.field.specs.Played.{Play, playedForBy, fresh}
+use Rattle.field.specs.Found.{BeginE0}
 use Rattle.field.specs.Demand.{AllObey, Demand3}
+use Rattle.field.specs.Foreign.{FoundAny}
 use Rattle.chorus.specs.Air.{coilAir}
 use Rattle.chorus.specs.Different.{differentAnswers, uidsOf, Speaks}
 
@@ -19,13 +22,21 @@ pub data DsfidsFit : List Tag → Type 0 where
 
 -- a fresh walk of a family over cards on the coil, at its end
 unfoldable pub onCoilPlayed : ℕ → List ℕ → List ℕ → List Tag → Play
-onCoilPlayed family list room tags = playedForBy coilAir (16 * 481) (fresh family list room tags)
+onCoilPlayed family list room tags = playedForBy coilAir (16 * 417) (fresh family list room tags)
 
--- demand 3 word for word, of the UIDs of the different answers
+-- demand 3 word for word, of the UIDs of the different answers; 02, W6: "every answering UID begins with E0"
 unfoldable pub coilDemand3 : Type 0
 coilDemand3 =
-    (family : ℕ) (tags : List Tag) (list room : List ℕ) → AllObey tags → DsfidsFit tags → 64 ≤ length list → 14 ≤ length room
+    (family : ℕ) (tags : List Tag) (list room : List ℕ) → AllObey tags → DsfidsFit tags → BeginE0 (answering family tags) → 64 ≤ length list
+    → 14 ≤ length room
     → Demand3 family tags (uidsOf (differentAnswers family tags)) (onCoilPlayed family list room tags)
+
+-- and without that premise, of UIDs that begin with anything
+unfoldable pub coilAnyUids : Type 0
+coilAnyUids =
+    (family : ℕ) (tags : List Tag) (list room : List ℕ) → AllObey tags → DsfidsFit tags → 64 ≤ length list → 14 ≤ length room
+    → let p : Play = onCoilPlayed family list room tags in
+    FoundAny (uidsOf (differentAnswers family tags)) (p .walk) (p .list)
 
 -- "twins means alike UID with another DSFID": two cards that answer say one UID and different DSFIDs
 pub record UnlikeTwins (family : ℕ) (tags : List Tag) : Type 0 where
@@ -46,5 +57,6 @@ pub record TwinsMean (family : ℕ) (tags : List Tag) (w : Walk) : Type 0 where
 
 unfoldable pub coilTwins : Type 0
 coilTwins =
-    (family : ℕ) (tags : List Tag) (list room : List ℕ) → AllObey tags → DsfidsFit tags → 64 ≤ length list → 14 ≤ length room
+    (family : ℕ) (tags : List Tag) (list room : List ℕ) → AllObey tags → DsfidsFit tags → BeginE0 (answering family tags) → 64 ≤ length list
+    → 14 ≤ length room
     → TwinsMean family tags (onCoilPlayed family list room tags .walk)

@@ -1,12 +1,12 @@
 -- The cases of 02, worked out slot by slot over the UIDs: 25 different cards and 27 of which two are alike end full over a list with 40 rows of the other
 -- rack; a UID heard by both takes a row in each. And the refusals in 02's numbers. Assumes nothing.
-use mathlib.Core.Path.{_≡_, refl, sym, ap, ap₂, _∙_}
-use mathlib.Core.Bool.{true, false, cond, _&&_, Bool, _||_}
+use mathlib.Core.Path.{_≡_, refl, sym, ap, ap₂, subst⁻¹, _∙_}
+use mathlib.Core.Bool.{true, false, cond, _&&_, Bool, _||_, and-eq-true-iff}
 use mathlib.Core.List.{List, [], _∷_}
-use Prim.Native.Nat.{ℕ, zero, suc, _+_, _*_, _%_, _^_, _≤_, _<_}
+use Prim.Native.Nat.{ℕ, zero, suc, _+_, _*_, _/_, _%_, _^_, _≤_, _<_}
 use native.Mathlib.Decide.{decLt, ℕ-discrete}
 use native.Mathlib.Omega.{arith}
-use borrow.Author.Tests.{lt-ltb, le-ltb}
+use borrow.Author.Tests.{lt-ltb, le-ltb, eqb-true}
 use lib.Dec.{ltb, eqb, leb}
 use lib.ListN.{length, set, length-set, replicate, take}
 use Rattle.lent.specs.Lent.{over}
@@ -17,7 +17,7 @@ use Rattle.walk.specs.declared.Kind.{Kind}
 use Rattle.walk.specs.declared.Slot.{Slot}
 use Rattle.walk.specs.declared.Slot.the-variants.{Silent, Clashed, Clean}
 use Rattle.walk.specs.Marks.{levels, waits, withMark, withoutMark, lowestFrom, lowest, deepestOf, deepest}
-use Rattle.walk.specs.Record.{places, levelsOf, mostRounds, maskLength, isRunning, remade, ended, counted, marked, atNextSlot, openedMask, openedAt, opened, noMarks, startedOf, started, isAccepted}
+use Rattle.walk.specs.Record.{places, levelsOf, mostRounds, maskLength, wholeMask, lowHalf, highHalf, isRunning, remade, ended, counted, marked, atNextSlot, openedMask, openedAt, opened, noMarks, startedOf, started, isAccepted}
 use Rattle.walk.specs.Hear.{judged, endsAtOnce, noted, listNoted, turned, passed, walkAfter, listAfter}
 use Rattle.walk.specs.Shared.{marksOf, rowsWith, uidsWith, listOf, firstFree, lowestFree, isRack, areMarks, ownersFit, listFits, mostRows, sharesFit, startRefusal, hearRefusal, freedOf, freed, hasRow, ownersAfter, sharedHearing, Starting, starting, SharedHearing}
 use Rattle.walk.specs.Ask.{asking}
@@ -26,6 +26,9 @@ use Rattle.walk.proofs.Owners.{rows-with-all}
 use Rattle.walk.proofs.SharedWays.{start-served-of, shared-started, start-refused, SharedServed, shared-served-of, shared-heard, shared-refused}
 use Rattle.play.specs.Life.{Tag}
 use Rattle.field.specs.Field.{answering, replies, Arrival, arrives}
+use Rattle.field.specs.Found.{BeginE0}
+use Rattle.field.proofs.Suited.{e0-suit, begin-none, begin-more}
+use Rattle.field.proofs.PlayedSlot.{Brings, arrives-brings}
 use Rattle.field.specs.Demand.{AllObey}
 use Rattle.field.proofs.Called.{called, slotOf}
 use Rattle.field.proofs.Stages.{hears, rests, running-of}
@@ -74,7 +77,7 @@ slot-by (u ∷ []) = ap Clean (omega arith)
 slot-by (u ∷ v ∷ us) = refl
 
 unfoldable callsUid : Walk → ℕ → ℕ
-callsUid w u = one (eqb (u % 16 ^ suc (w .level)) (w .mask + w .slot * 16 ^ w .level))
+callsUid w u = one (eqb (u % 16 ^ suc (w .level)) (wholeMask w + w .slot * 16 ^ w .level))
 
 unfoldable slotFor : List ℕ → Walk → Slot
 slotFor us w = slotBy (tally (callsUid w) us) (tally (λ u. callsUid w u * u) us)
@@ -82,7 +85,7 @@ slotFor us w = slotBy (tally (callsUid w) us) (tally (λ u. callsUid w u * u) us
 slot-for : (us : List ℕ) (w : Walk) → slotOf (called us w) ≡ slotFor us w
 unfolding slotFor called callsUid
 slot-for us w =
-    let tail : ℕ = w .mask + w .slot * 16 ^ w .level in
+    let tail : ℕ = wholeMask w + w .slot * 16 ^ w .level in
     slot-by (called us w) ∙ ap₂ slotBy (length-ending (suc (w .level)) tail us) (tally-ending (λ u. u) (suc (w .level)) tail us)
 
 unfoldable stood : List ℕ → Walk → Walk
@@ -92,13 +95,16 @@ unfoldable stoodFor : List ℕ → ℕ → Walk → Walk
 stoodFor us zero w = w
 stoodFor us (suc n) w = stoodFor us n (stood us w)
 
-slot-stood : (family : ℕ) (tags : List Tag) (m : ℕ) (d : Desk) → AllObey tags → rowsWith 1 (d .list .owners) ≡ 40 → Stage 0 family tags m d
+brings-of : (family : ℕ) (tags : List Tag) → AllObey tags → BeginE0 (answering family tags) → Brings arrives levels (answering family tags) family tags
+brings-of family tags obey begin = arrives-brings levels family tags obey (e0-suit (answering family tags) begin .starts)
+
+slot-stood : (family : ℕ) (tags : List Tag) (m : ℕ) (d : Desk) → AllObey tags → BeginE0 (answering family tags) → rowsWith 1 (d .list .owners) ≡ 40 → Stage 0 family tags (answering family tags) m d
     → slotPlayedOn 0 d .walk ≡ stood (answering family tags) (d .walk)
 unfolding stood
-slot-stood family tags m d obey forty (hears o g h e f room count row) =
-    let p : Played 0 family tags d (slotPlayedOn 0 d) = hears-played 0 family tags d (omega arith) obey o g h e f room row in
+slot-stood family tags m d obey begin forty (hears o g h e f room count row) =
+    let p : Played 0 family tags (answering family tags) d (slotPlayedOn 0 d) = hears-played 0 family tags (answering family tags) d (omega arith) obey begin (brings-of family tags obey begin) o g h e f room row in
     rw (running-of (d .walk) e, ← row-by-count (d .walk) (d .list .rows) (d .list .owners) o forty, ← slot-for (answering family tags) (d .walk)) (p .walk)
-slot-stood family tags m d obey forty (rests o a r v row) = rw r (ap (λ (x : Desk). x .walk) (ended-played 0 d (omega arith) a r))
+slot-stood family tags m d obey begin forty (rests o a r v row) = rw r (ap (λ (x : Desk). x .walk) (ended-played 0 d (omega arith) a r))
 
 slot-forty : (d : Desk) → rowsWith 1 (slotPlayedOn 0 d .list .owners) ≡ rowsWith 1 (d .list .owners)
 unfolding slotPlayedOn
@@ -107,13 +113,13 @@ slot-forty d =
     other-rows 0 1 (d .list .rows) (d .list .owners) _ _ (hearing (heard-after (d .walk) 0 (heard .kind) (heard .bytes) (d .list .rows) (d .list .owners))) (omega arith)
     (λ e. omega arith)
 
-played-stood : (family : ℕ) (tags : List Tag) (n m : ℕ) (d : Desk) → AllObey tags → rowsWith 1 (d .list .owners) ≡ 40 → Stage 0 family tags m d
+played-stood : (family : ℕ) (tags : List Tag) (n m : ℕ) (d : Desk) → AllObey tags → BeginE0 (answering family tags) → rowsWith 1 (d .list .owners) ≡ 40 → Stage 0 family tags (answering family tags) m d
     → playedOn 0 (replicate n (own tt)) d .walk ≡ stoodFor (answering family tags) n (d .walk)
 unfolding playedOn eventPlayed stoodFor
-played-stood family tags zero m d obey forty s = refl
-played-stood family tags (suc n) m d obey forty s =
-    played-stood family tags n (suc m) (slotPlayedOn 0 d) obey (slot-forty d ∙ forty) (stage-own 0 family tags m d (omega arith) obey s)
-    ∙ ap (stoodFor (answering family tags) n) (slot-stood family tags m d obey forty s)
+played-stood family tags zero m d obey begin forty s = refl
+played-stood family tags (suc n) m d obey begin forty s =
+    played-stood family tags n (suc m) (slotPlayedOn 0 d) obey begin (slot-forty d ∙ forty) (stage-own 0 family tags (answering family tags) m d (omega arith) obey begin (brings-of family tags obey begin) s)
+    ∙ ap (stoodFor (answering family tags) n) (slot-stood family tags m d obey begin forty s)
 
 -- ---- the marks of the cases
 
@@ -129,36 +135,56 @@ forty-freed : freed 0 fortyOwned ≡ fortyOwned
 unfolding freed freedOf marksOf places over
 forty-freed = refl
 
+unfoldable allE0 : List ℕ → Bool
+allE0 [] = true
+allE0 (u ∷ us) = eqb (u / 2 ^ 56) 0xe0 && allE0 us
+
 -- ---- 25 different, and 27 of which two are alike
 
 different-stood : (family : ℕ) → (stoodFor twentyFive 26 (started family) .ending ≡ 3) × (stoodFor twentyFive 26 (started family) .count ≡ 24)
-unfolding stoodFor stood isRunning started startedOf noMarks walkAfter endsAtOnce noted passed turned ended counted marked atNextSlot opened openedAt remade openedMask maskLength withMark withoutMark waits lowest lowestFrom deepest deepestOf levels levelsOf mostRounds slotFor slotBy callsUid tally one
+unfolding stoodFor stood isRunning started startedOf noMarks walkAfter endsAtOnce noted passed turned ended counted marked atNextSlot opened openedAt remade openedMask wholeMask lowHalf highHalf maskLength withMark withoutMark waits lowest lowestFrom deepest deepestOf levels levelsOf mostRounds slotFor slotBy callsUid tally one
 different-stood family = (refl, refl)
 
 alike-stood : (family : ℕ) → (stoodFor twoAlike 27 (started family) .ending ≡ 3) × (stoodFor twoAlike 27 (started family) .count ≡ 24)
-unfolding stoodFor stood isRunning started startedOf noMarks walkAfter endsAtOnce noted passed turned ended counted marked atNextSlot opened openedAt remade openedMask maskLength withMark withoutMark waits lowest lowestFrom deepest deepestOf levels levelsOf mostRounds slotFor slotBy callsUid tally one
+unfolding stoodFor stood isRunning started startedOf noMarks walkAfter endsAtOnce noted passed turned ended counted marked atNextSlot opened openedAt remade openedMask wholeMask lowHalf highHalf maskLength withMark withoutMark waits lowest lowestFrom deepest deepestOf levels levelsOf mostRounds slotFor slotBy callsUid tally one
 alike-stood family = (refl, refl)
 
-case-stood : (n : ℕ) (w : Walk) (family : ℕ) (tags : List Tag) (rows room us : List ℕ) → AllObey tags → 64 ≤ length rows → 14 ≤ length room
+-- all begin with E0
+all-begin : (us : List ℕ) → allE0 us ≡ true → BeginE0 us
+unfolding allE0
+all-begin [] e = begin-none
+all-begin (u ∷ us) e =
+    let both = and-eq-true-iff (eqb (u / 2 ^ 56) 0xe0) (allE0 us) .0 e in
+    begin-more u us (eqb-true (u / 2 ^ 56) 0xe0 (both .0)) (all-begin us (both .1))
+
+twenty-five-begin : BeginE0 twentyFive
+unfolding allE0
+twenty-five-begin = all-begin twentyFive refl
+
+two-alike-begin : BeginE0 twoAlike
+unfolding allE0
+two-alike-begin = all-begin twoAlike refl
+
+case-stood : (n : ℕ) (w : Walk) (family : ℕ) (tags : List Tag) (rows room us : List ℕ) → AllObey tags → BeginE0 us → 64 ≤ length rows → 14 ≤ length room
     → answering family tags ≡ us → deskOfCase n w family tags rows room .walk ≡ stoodFor us n (started family)
 unfolding startedOn
-case-stood n w family tags rows room us obey places space same =
+case-stood n w family tags rows room us obey begin places space same =
     let l : OneList = record { rows = rows; owners = fortyOwned } in
     let fits : Shareable l = both-fit l places forty-fit in
     let begun = started-by-marks w 0 family fortyOwned (omega arith) forty-fit in
     let most : owned 1 l ≤ 40 = omega (arith, sym (rows-counted 1 fortyOwned) ∙ forty-owned) in
-    let start = stage-start 0 family w tags l room (omega arith) obey fits most space in
+    let start = stage-start 0 family w tags (answering family tags) l room (omega arith) obey fits most space in
     let forty : rowsWith 1 (startedOn 0 w family l room tags .list .owners) ≡ 40 = rw (begun, forty-freed) forty-owned in
-    played-stood family tags n 0 (startedOn 0 w family l room tags) obey forty start ∙ rw (begun, same)
+    played-stood family tags n 0 (startedOn 0 w family l room tags) obey (subst⁻¹ (λ (xs : List ℕ). BeginE0 xs) same begin) forty start ∙ rw (begun, same)
 
 pub may-end-full : MayEndFull
 may-end-full =
     record {
       different = λ family w tags rows room obey places space same.
-          let stands = case-stood 26 w family tags rows room twentyFive obey places space same in
+          let stands = case-stood 26 w family tags rows room twentyFive obey twenty-five-begin places space same in
           (ap (λ (x : Walk). x .ending) stands ∙ different-stood family .0, ap (λ (x : Walk). x .count) stands ∙ different-stood family .1);
       alike = λ family w tags rows room obey places space same.
-          let stands = case-stood 27 w family tags rows room twoAlike obey places space same in
+          let stands = case-stood 27 w family tags rows room twoAlike obey two-alike-begin places space same in
           (ap (λ (x : Walk). x .ending) stands ∙ alike-stood family .0, ap (λ (x : Walk). x .count) stands ∙ alike-stood family .1);
     }
 

@@ -3,16 +3,17 @@
 use mathlib.Core.Path.{_≡_, refl, sym, ap, subst, _∙_}
 use mathlib.Core.Bool.{true, false, cond, false≢true}
 use mathlib.Core.List.{List, [], _∷_}
-use Prim.Native.Nat.{ℕ, zero, suc, _+_, _-_, _*_, _≤_}
+use Prim.Native.Nat.{ℕ, zero, suc, _+_, _-_, _*_, _/_, _^_, _≤_}
 use native.Mathlib.Nat.{zero-add}
 use native.Mathlib.Omega.{arith}
+use borrow.Author.Tests.{eqb-true}
 use lib.ListN.{length}
-use Rattle.tails.specs.Sum.{times}
+use Rattle.tails.specs.Sum.{tally, times}
 use Rattle.walk.specs.declared.Walk.{Walk}
 use Rattle.walk.specs.declared.Slot.{Slot}
 use Rattle.walk.specs.Marks.{levels}
-use Rattle.walk.specs.Record.{mostRounds, isRunning, startedOf, started}
-use Rattle.walk.specs.Hear.{judged}
+use Rattle.walk.specs.Record.{levelsOf, mostRounds, isRunning, startedOf, started}
+use Rattle.walk.specs.Hear.{startsE0, judged}
 use Rattle.walk.specs.Shared.{hearRefusal, freed, hasRow}
 use Rattle.walk.proofs.Owners.{freed-own, freed-fit}
 use Rattle.walk.proofs.Rows.{length-list-of, list-freed}
@@ -20,8 +21,9 @@ use Rattle.walk.proofs.SharedWays.{start-served-of, start-refused, shared-serve
 use Rattle.field.specs.Field.{Arrival}
 use Rattle.field.proofs.Accepted.{walks-accepted}
 use Rattle.field.proofs.AnyReplies.{Fits, start-walks}
+use Rattle.field.proofs.Called.{Starts}
 use Rattle.field.proofs.AnyStages.{Stage, hears, rests, once, after-slot}
-use Rattle.field.proofs.AnyWalk.{judged-fits, slot-fits}
+use Rattle.field.proofs.AnyWalk.{judged-clean, slot-fits, added-starts}
 use Rattle.field.proofs.Stages.{running-of}
 use Rattle.racks.specs.Calls.{OneList, Shareable, owned, rowsOf, Call, listAfterCall}
 use Rattle.racks.specs.Calls as calls
@@ -36,17 +38,19 @@ use Rattle.racks.proofs.Demand.{both-fit, rows-of-fits, owners-of-fits,
 pub record Goes (rack n : ℕ) (w : Walk) (l : OneList) : Type 0 where
   pub owning : Owning rack w (l .rows) (l .owners)
   pub stage : Stage levels n w (rowsOf rack l)
+  pub begins : Starts levels (rowsOf rack l)
 
 -- ---- the start
 
 -- the rack owns no row
 goes-empty : (rack family : ℕ) (l : OneList) → Sharing (l .rows) (l .owners) → rowsOf rack l ≡ [] → Goes rack 0 (started family) l
-unfolding started startedOf levels
+unfolding started startedOf levels Starts times tally
 goes-empty rack family l sharing none =
     let long = length-list-of rack (l .rows) (l .owners) (sharing .rows-fit) (fits-length (l .owners) (sharing .owners-fit)) in
     record {
       owning = record { sharing = sharing; number = sym (ap length none) ∙ long };
       stage = rw none (hears (start-walks levels family (omega arith)) (omega arith) refl (omega arith));
+      begins = rw none (λ u h. absurd (omega arith));
     }
 
 pub goes-fresh : (rack family : ℕ) (l : OneList) → rack ≤ 1 → Shareable l → owned (1 - rack) l ≤ 40
@@ -62,14 +66,16 @@ stage-number (hears g h e c) = g .number
 stage-number (rests a r o k) = k
 
 -- what a slot leaves: the rack owns as many rows as the next walk counts
-owning-of : (rack n : ℕ) (w : Walk) (l : OneList) → Sharing (l .rows) (l .owners) → Stage levels n w (rowsOf rack l) → Goes rack n w l
-owning-of rack n w l sharing stage =
+owning-of : (rack n : ℕ) (w : Walk) (l : OneList) → Sharing (l .rows) (l .owners) → Stage levels n w (rowsOf rack l) → Starts levels (rowsOf rack l)
+    → Goes rack n w l
+owning-of rack n w l sharing stage begins =
     record {
       owning = record {
         sharing = sharing;
         number = sym (stage-number stage) ∙ length-list-of rack (l .rows) (l .owners) (sharing .rows-fit) (fits-length (l .owners) (sharing .owners-fit));
       };
       stage = stage;
+      begins = begins;
     }
 
 slot-stage : (rack n : ℕ) (a : Arrival) (w : Walk) (l : OneList) → rack ≤ 1 → Owning rack w (l .rows) (l .owners) → Stage levels n w (rowsOf rack l)
@@ -81,12 +87,27 @@ slot-stage rack n a w l is o (hears g h e c) =
     let s : Slot = judged w (a .kind) (a .bytes) in
     let place = hasRow rack owners in
     let served = owning-served rack w rows owners is (walks-accepted w (rowsOf rack l) (w .slot) h g) (running-of w e) o in
-    let fits : Fits w s = slot-fits w (w .slot) (rowsOf rack l) s g h (λ u f. judged-fits w (a .kind) (a .bytes) u f) in
+    let fits : Fits w s = slot-fits w (w .slot) (rowsOf rack l) s g h (λ u f. judged-clean w (a .kind) (a .bytes) u f .fits) in
     rw (shared-heard w rack (a .kind) (a .bytes) rows owners served)
     (after-slot n w (rowsOf rack l) _ s place g h e c fits (λ b. omega (arith, row-few rack owners b, o .number))
     (own-lists w rack rows owners s place (row-open w rack rows owners served)))
 slot-stage rack n a w l is o (rests r e u k) =
     rw (shared-ended w rack (a .kind) (a .bytes) (l .rows) (l .owners) is r e) (rests r e u k)
+
+slot-begins : (rack n : ℕ) (a : Arrival) (w : Walk) (l : OneList) → rack ≤ 1 → Owning rack w (l .rows) (l .owners) → Stage levels n w (rowsOf rack l)
+    → Starts levels (rowsOf rack l) → Starts levels (rowsOf rack (heardOn rack a (record { walk = w; list = l }) .list))
+unfolding heardOn levelsOf
+slot-begins rack n a w l is o (hears g h e c) begins =
+    let rows : List ℕ = l .rows in
+    let owners : List ℕ = l .owners in
+    let s : Slot = judged w (a .kind) (a .bytes) in
+    let place = hasRow rack owners in
+    let served = owning-served rack w rows owners is (walks-accepted w (rowsOf rack l) (w .slot) h g) (running-of w e) o in
+    rw (shared-heard w rack (a .kind) (a .bytes) rows owners served)
+    (added-starts levels w s place (rowsOf rack l) _ (g .marks-length) (judged-clean w (a .kind) (a .bytes))
+    (own-lists w rack rows owners s place (row-open w rack rows owners served)) begins)
+slot-begins rack n a w l is o (rests r e u k) begins =
+    rw (shared-ended w rack (a .kind) (a .bytes) (l .rows) (l .owners) is r e) begins
 
 pub goes-own : (rack n : ℕ) (a : Arrival) (w : Walk) (l : OneList) → rack ≤ 1 → Goes rack n w l
     → Goes rack (suc n) (heardOn rack a (record { walk = w; list = l }) .walk) (heardOn rack a (record { walk = w; list = l }) .list)
@@ -94,7 +115,7 @@ unfolding heardOn
 goes-own rack n a w l is g =
     owning-of rack (suc n) _ _
     (sharing-after rack (l .rows) (l .owners) _ _ (hearing (heard-after w rack (a .kind) (a .bytes) (l .rows) (l .owners))) (g .owning .sharing))
-    (slot-stage rack n a w l is (g .owning) (g .stage))
+    (slot-stage rack n a w l is (g .owning) (g .stage)) (slot-begins rack n a w l is (g .owning) (g .stage) (g .begins))
 
 -- ---- a call with another number
 
@@ -110,6 +131,7 @@ goes-other rack n number call w l is e g =
         number = g .owning .number ∙ sym (other-rows number rack (l .rows) (l .owners) (l′ .rows) (l′ .owners) after is (λ f. e (sym f)));
       };
       stage = subst (λ (ls : List ℕ). Stage levels n w ls) (sym same) (g .stage);
+      begins = subst (λ (ls : List ℕ). Starts levels ls) (sym same) (g .begins);
     }
 
 -- ---- what holds
@@ -129,10 +151,10 @@ pub goes-answers : (rack n : ℕ) (w : Walk) (l : OneList) → rack ≤ 1 → Go
     → hearRefusal w rack (length (l .rows)) (l .owners) ≡ cond (isRunning w) 0 6
 goes-answers rack n w l is g = stage-answers rack n w l is (g .owning) (g .stage)
 
-stage-ends : (n : ℕ) (w : Walk) (ls : List ℕ) → Stage levels n w ls → 16 * 481 ≤ n → isRunning w ≡ false
+stage-ends : (n : ℕ) (w : Walk) (ls : List ℕ) → Stage levels n w ls → 16 * 417 ≤ n → isRunning w ≡ false
 unfolding mostRounds levels
 stage-ends n w ls (hears g h e c) m =
-    let most : w .rounds ≤ mostRounds 16 = rw (g .marks-length) at (g .steady .accepted .last-round) in
+    let most : w .rounds ≤ mostRounds 14 = rw (g .marks-length) at (g .steady .accepted .last-round) in
     absurd (omega (arith, most, c, h, m))
 stage-ends n w ls (rests a r o k) m = r
 
@@ -140,10 +162,16 @@ stage-counted : (n : ℕ) (w : Walk) (ls : List ℕ) → Stage levels n w ls →
 stage-counted n w ls (hears g h e c) r = c
 stage-counted n w ls (rests a f o k) r = absurd (false≢true (sym f ∙ r))
 
+-- in 02's words
+starts-e0 : (us : List ℕ) → Starts levels us → (u : ℕ) → 1 ≤ times u us → u / 2 ^ 56 ≡ 0xe0
+unfolding Starts startsE0 levels
+starts-e0 us begin u h = eqb-true (u / 2 ^ 56) 0xe0 (begin u h)
+
 holds-of : (rack n : ℕ) (p : RackWalk) → rack ≤ 1 → Goes rack n (p .walk) (p .list) → HoldsOn rack n p
 holds-of rack n p is g =
     record {
       once = stage-once (g .stage);
+      begins = starts-e0 (rowsOf rack (p .list)) (g .begins);
       answers = goes-answers rack n (p .walk) (p .list) is g;
       counted = stage-counted n (p .walk) (rowsOf rack (p .list)) (g .stage);
       ends = stage-ends n (p .walk) (rowsOf rack (p .list)) (g .stage);

@@ -13,7 +13,8 @@ use Rattle.walk.specs.Ask.{Asking, asking}
 use Rattle.walk.specs.Shared.{Starting, starting, SharedHearing, sharedHearing}
 use Rattle.play.specs.Life.{Tag}
 use Rattle.field.specs.Field.{answering, tagsAfter, replies, Arrival, arrives}
-use Rattle.field.specs.Found.{Different}
+use Rattle.field.specs.Found.{Different, BeginE0, Twins}
+use Rattle.field.specs.Foreign.{asHeard}
 use Rattle.field.specs.Demand.{AllObey, cardsLeft, cards, memories, lockBytes}
 use Rattle.racks.specs.Calls.{OneList, Shareable, owned, rowsOf, Call, listAfterCall}
 
@@ -73,10 +74,10 @@ pub record FoundOn (us : List ℕ) (w : Walk) (list : List ℕ) : Type 0 where
   pub count : w .ending ≡ complete → w .count ≡ length us
   pub holds : length list ≡ w .count
   pub rounds : w .ending ≡ complete → w .rounds ≡ 1 + sharedTails us
-  pub rounds-most : w .ending ≡ complete → w .rounds ≤ 1 + 15 * (length us / 2)
+  pub rounds-most : w .ending ≡ complete → w .rounds ≤ 1 + 13 * (length us / 2)
   -- "two alike always end in twins"
   pub alike : length us ≤ 24 → (Different us → ⊥) → w .ending ≡ twins
-  pub twins-alike : w .ending ≡ twins → (u : ℕ) × (2 ≤ times u us)
+  pub twins-alike : w .ending ≡ twins → Twins 13 us w
   -- "from 25 to 40 it may also end full": not below
   pub full-many : w .ending ≡ full → 24 < length us
   -- "above 40 it never ends complete"
@@ -85,17 +86,37 @@ pub record FoundOn (us : List ℕ) (w : Walk) (list : List ℕ) : Type 0 where
   -- 01: "overrun needs false replies"
   pub no-overrun : w .ending ≤ full
 
-pub record DemandOn (rack family : ℕ) (tags : List Tag) (d : Desk) : Type 0 where
-  pub found : FoundOn (answering family tags) (d .walk) (rowsOf rack (d .list))
+-- us being the UIDs that count
+pub record DemandOf (rack family : ℕ) (tags : List Tag) (us : List ℕ) (d : Desk) : Type 0 where
+  pub found : FoundOn us (d .walk) (rowsOf rack (d .list))
   -- the cards keep all but sequence and held answer
   pub cards-left : cards (d .tags) ≡ cardsLeft family (d .walk) tags
   pub memories-left : memories (d .tags) ≡ memories tags
   pub locks-left : lockBytes (d .tags) ≡ lockBytes tags
 
--- the rack is started over any rows and marks that number 5 accepts, the other rack owning 40 at the most; then any schedule with 16 × 481 slots of
--- its own or more
+abbrev pub DemandOn : ℕ → ℕ → List Tag → Desk → Type 0
+DemandOn rack family tags d = DemandOf rack family tags (answering family tags) d
+
+-- the rack is started over any rows and marks that number 5 accepts, the other rack owning 40 at the most; then any schedule with 16 × 417 slots of
+-- its own or more. 02, W6: "every answering UID begins with E0"
 unfoldable pub rackDemand3 : Type 0
 rackDemand3 =
     (rack family : ℕ) (w : Walk) (tags : List Tag) (l : OneList) (room : List ℕ) (events : List (Happening (Unit {0}) rack))
-    → rack ≤ 1 → AllObey tags → Shareable l → owned (1 - rack) l ≤ 40 → 14 ≤ length room → 16 * 481 ≤ ownEvents events
+    → rack ≤ 1 → AllObey tags → BeginE0 (answering family tags) → Shareable l → owned (1 - rack) l ≤ 40 → 14 ≤ length room
+    → 16 * 417 ≤ ownEvents events
     → DemandOn rack family tags (playedOn rack events (startedOn rack w family l room tags))
+
+-- without that premise, of UIDs that begin with anything: one that does not begin with E0 counts twice
+pub record FoundAnyOn (us : List ℕ) (w : Walk) (list : List ℕ) : Type 0 where
+  pub ends : isRunning w ≡ false
+  pub complete-e0 : w .ending ≡ complete → BeginE0 us
+  pub complete-found : w .ending ≡ complete → FoundOn us w list
+  pub foreign-twins : length (asHeard us) ≤ 24 → (BeginE0 us → ⊥) → w .ending ≡ twins
+  pub no-overrun : w .ending ≤ full
+
+unfoldable pub rackAnyUids : Type 0
+rackAnyUids =
+    (rack family : ℕ) (w : Walk) (tags : List Tag) (l : OneList) (room : List ℕ) (events : List (Happening (Unit {0}) rack))
+    → rack ≤ 1 → AllObey tags → Shareable l → owned (1 - rack) l ≤ 40 → 14 ≤ length room → 16 * 417 ≤ ownEvents events
+    → let d : Desk = playedOn rack events (startedOn rack w family l room tags) in
+    FoundAnyOn (answering family tags) (d .walk) (rowsOf rack (d .list))

@@ -1,5 +1,5 @@
 -- 02, W5, over any replies, true or false: a rack's walk from its start on, and two racks that go on with their own records.
-use Prim.Native.Nat.{ℕ, zero, suc, _+_, _-_, _*_, _≤_}
+use Prim.Native.Nat.{ℕ, zero, suc, _+_, _-_, _*_, _/_, _^_, _≤_}
 use mathlib.Core.Bool.{true, false, cond}
 use mathlib.Core.List.{List, [], _∷_}
 use mathlib.Core.Path.{_≡_}
@@ -39,10 +39,12 @@ happensAll rack (e ∷ events) p = happensAll rack events (happens rack e p)
 pub record HoldsOn (rack n : ℕ) (p : RackWalk) : Type 0 where
   -- "No UID is listed twice in a walk"
   pub once : (u : ℕ) → times u (rowsOf rack (p .list)) ≤ 1
+  -- 02, W6: "a clean reply whose UID doesn't start with E0 is a clash": every UID in its rows begins with it
+  pub begins : (u : ℕ) → 1 ≤ times u (rowsOf rack (p .list)) → u / 2 ^ 56 ≡ 0xe0
   -- its hearing gives 0 while it runs, and 6 after its ending
   pub answers : hearRefusal (p .walk) rack (length (p .list .rows)) (p .list .owners) ≡ cond (isRunning (p .walk)) 0 6
   pub counted : isRunning (p .walk) ≡ true → 16 * p .walk .rounds + p .walk .slot ≡ 16 + n
-  pub ends : 16 * 481 ≤ n → isRunning (p .walk) ≡ false
+  pub ends : 16 * 417 ≤ n → isRunning (p .walk) ≡ false
 
 unfoldable pub anyRepliesOn : Type 0
 anyRepliesOn =
