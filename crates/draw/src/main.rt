@@ -3,7 +3,7 @@ use libc::STDOUT_FILENO;
 
 // Draws the walk over an input, and prints what the bench prints of it.
 fn draw(input: &[u8]) {
-    let mut out = [0u8; 20503];
+    let mut out = [0u8; 17943];
     let pictured = picture::picture::picture(input, &mut out);
     let most: &[u8] = &out;
     let count = io::count(pictured as isize, most);

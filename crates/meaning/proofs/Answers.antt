@@ -12,6 +12,7 @@ use Rattle.card.specs.declared.Card.{Card}
 use Rattle.card.specs.declared.Turn.{Turn}
 use Rattle.card.specs.Inventory.{present}
 use Rattle.walk.specs.declared.Walk.{Walk}
+use Rattle.walk.specs.Record.{wholeMask}
 use Rattle.play.specs.Life.{Tag}
 use Rattle.field.specs.Demand.{cards}
 use Rattle.field.proofs.Called.{slotOf}
@@ -46,7 +47,7 @@ row-answers w air (t₀ ∷ ts₀) (t ∷ ts) (more h hs) =
     row-answers w (airWith air (turnOf w (t .card) .card) (turnOf w (t .card) .reply)) ts₀ ts hs
     ∙ ap (λ (u : Turn). answered (airWith air (u .card) (u .reply) .answers) (callers (w .family) w ts₀)) h
     ∙ ap (λ (a : ℕ). answered a (callers (w .family) w ts₀))
-    (answers-with air (inStep (w .family) (w .level) (w .mask) (w .slot) (t₀ .card)) (calls (w .family) w (t₀ .card)))
+    (answers-with air (inStep (w .family) (w .level) (wholeMask w) (w .slot) (t₀ .card)) (calls (w .family) w (t₀ .card)))
     ∙ go (calls (w .family) w (t₀ .card))
   where
     go : (b : Bool) → answered (cond b (cond (eqb (air .answers) 0) 1 2) (air .answers)) (callers (w .family) w ts₀)

@@ -13,7 +13,7 @@ use Rattle.card.specs.Mark.{marked}
 use Rattle.card.specs.Frame.{heardInventory}
 use Rattle.card.proofs.Heard.{heard-cleared}
 use Rattle.walk.specs.declared.Walk.{Walk}
-use Rattle.walk.specs.Record.{isAccepted, isRunning}
+use Rattle.walk.specs.Record.{wholeMask, isAccepted, isRunning}
 use Rattle.walk.specs.Ask.{Asking, request, sent, roomAfter}
 use Rattle.walk.proofs.Limits.{Accepted, accepted-of-is-accepted}
 use Rattle.field.proofs.InTime.{inStep, calls}
@@ -24,7 +24,7 @@ use Rattle.row.specs.Row.{noBytes, sentOf, heardBy, turnBy, turnOf}
 
 -- what becomes of a card c of the start
 unfoldable pub stepped : Walk → Card → Turn
-stepped w c = turn (inStep (w .family) (w .level) (w .mask) (w .slot) c) (present (calls (w .family) w c))
+stepped w c = turn (inStep (w .family) (w .level) (wholeMask w) (w .slot) c) (present (calls (w .family) w c))
 
 -- ---- a request
 
@@ -47,7 +47,7 @@ request-turned w c card accepted level running e same =
     ∙ rw (sent-request w running e, take-over (request w) noBytes) (request-stepped c card w (accepted-of-is-accepted w accepted) level e same)
 
 pub mark-turned : (w : Walk) (s : ℕ) (c card : Card) → isAccepted w ≡ true → isRunning w ≡ true → w .slot ≡ suc s
-    → card ≡ inStep (w .family) (w .level) (w .mask) s c → turnOf w card ≡ stepped w c
+    → card ≡ inStep (w .family) (w .level) (wholeMask w) s c → turnOf w card ≡ stepped w c
 unfolding heardBy stepped
 mark-turned w s c card accepted running e same =
     let below : s < 15 = omega (arith, e, accepted-of-is-accepted w accepted .slot) in

@@ -3,6 +3,7 @@ mod RowTurned
 mod SlotsAlike
 pub mod Bench
 pub mod Printed
+pub mod Twins
 mod Answers
 pub mod Signs
 mod OverUids

@@ -2,19 +2,19 @@
 -- Assumes nothing.
 use mathlib.Core.Path.{_≡_, refl, ap, subst⁻¹, _∙_}
 use mathlib.Core.Bool.{true, cond, not, _||_}
-use Prim.Native.Nat.{ℕ, zero, suc, _^_, _<_}
+use Prim.Native.Nat.{ℕ, zero, suc, _<_}
 use native.Mathlib.Omega.{arith}
 use mathlib.Core.List.{List, [], _∷_, _++_}
 use lib.Dec.{eqb}
-use lib.ListN.{length, getD}
+use lib.ListN.{length}
 use Rattle.walk.specs.declared.Walk.{Walk}
 use Rattle.walk.specs.Marks.{levels}
-use Rattle.walk.specs.Record.{isAccepted, isRunning, started}
+use Rattle.walk.specs.Record.{wholeMask, isAccepted, isRunning, started}
 use Rattle.play.specs.Life.{Tag}
 use Rattle.field.specs.Field.{answering}
 use Rattle.field.specs.Played.{Play, fresh}
 use Rattle.field.specs.Played as field
-use Rattle.field.specs.Found.{listed}
+use Rattle.field.specs.Found.{BeginE0, listed}
 use Rattle.field.specs.Demand.{AllObey, cards}
 use Rattle.field.proofs.Called.{called}
 use Rattle.field.proofs.InTime.{Both, Before}
@@ -22,14 +22,13 @@ use Rattle.field.proofs.Accepted.{walks-accepted, walks-level}
 use Rattle.field.proofs.Next.{Suits}
 use Rattle.field.proofs.Stages.{Stage, hears, rests, running-of, stage-fresh, stage-slot}
 use Rattle.field.proofs.Stood.{Stand, stood, stoodFor, standOf, played-stood}
-use Rattle.field.proofs.Suited.{uids-suit}
 use Rattle.row.specs.Row.{Played, noBytes, stillAir, rowAir, slotPlayed, playedFor, cardsOf}
 use Rattle.row.specs.Play.{noUids, freshDesk}
 use Rattle.picture.specs.Drawn.{sign, lineHead, slotDrawn, drawnFor}
 use Rattle.meaning.specs.Signs.{signFor}
 use Rattle.meaning.proofs.RowTurned.{Turned, row-turned}
 use Rattle.meaning.proofs.SlotsAlike.{benchOf, played-alike}
-use Rattle.meaning.proofs.Bench.{tagsOf, tags-obey, tags-answer, freshField, bench-is-a-field}
+use Rattle.meaning.proofs.Bench.{tagsOf, tags-obey, tags-answer, tags-suit, freshField, bench-is-a-field}
 use Rattle.meaning.proofs.Signs.{sign-called}
 
 -- what a slot with a sign adds
@@ -47,12 +46,12 @@ overUids us (suc n) s =
 -- ---- one slot
 
 hears-signed : (family : ℕ) (tags : List Tag) (p : Play) → AllObey tags → isAccepted (p .walk) ≡ true → p .walk .level < 16
-    → isRunning (p .walk) ≡ true → p .walk .family ≡ family → Before family (p .walk .level) (p .walk .mask) (p .walk .slot) tags (p .tags)
+    → isRunning (p .walk) ≡ true → p .walk .family ≡ family → Before family (p .walk .level) (wholeMask (p .walk)) (p .walk .slot) tags (p .tags)
     → sign (rowAir (p .walk) stillAir (cards (p .tags))) ≡ signFor (length (called (answering family tags) (p .walk)))
 hears-signed family tags p obey accepted level running f before =
     let w : Walk = p .walk in
     let turned : Both (Turned w) tags (p .tags) =
-    row-turned w tags (p .tags) obey accepted level running (subst⁻¹ (λ (x : ℕ). Before x (w .level) (w .mask) (w .slot) tags (p .tags)) f before) in
+    row-turned w tags (p .tags) obey accepted level running (subst⁻¹ (λ (x : ℕ). Before x (w .level) (wholeMask w) (w .slot) tags (p .tags)) f before) in
     sign-called w tags (p .tags) accepted turned ∙ ap (λ (x : ℕ). signFor (length (called (answering x tags) w))) f
 
 -- the bench's slot and the UIDs' are a field's
@@ -94,17 +93,17 @@ module _ (family : ℕ) (tags : List Tag) (obey : AllObey tags) (fit : Suits lev
 
 -- ---- for the bench's cards
 
-bench-start : (us : List ℕ) → ((i : ℕ) → getD us i 0 < 2 ^ 64) → record { desk = freshDesk; row = cardsOf us } ≡ benchOf (freshField us)
+bench-start : (us : List ℕ) → BeginE0 us → record { desk = freshDesk; row = cardsOf us } ≡ benchOf (freshField us)
 unfolding playedFor field.playedForBy
-bench-start us h = bench-is-a-field us h 0
+bench-start us begin = bench-is-a-field us begin 0
 
-pub bench-drawn : (us : List ℕ) → ((i : ℕ) → getD us i 0 < 2 ^ 64) → (n : ℕ)
+pub bench-drawn : (us : List ℕ) → BeginE0 us → (n : ℕ)
     → drawnFor n (record { desk = freshDesk; row = cardsOf us }) ≡ overUids us n (record { walk = started 256; list = noUids })
 unfolding freshField fresh noUids noBytes
-bench-drawn us h n =
+bench-drawn us begin n =
     let tags : List Tag = tagsOf us in
-    let obey : AllObey tags = tags-obey us h in
-    ap (drawnFor n) (bench-start us h)
-    ∙ drawn-over 256 tags obey (uids-suit 256 tags obey) n 0 (freshField us)
+    let obey : AllObey tags = tags-obey us begin in
+    ap (drawnFor n) (bench-start us begin)
+    ∙ drawn-over 256 tags obey (tags-suit us begin) n 0 (freshField us)
     (stage-fresh 256 tags (answering 256 tags) noUids noBytes obey (omega arith) (omega arith))
     ∙ ap (λ (vs : List ℕ). overUids vs n (record { walk = started 256; list = noUids })) (tags-answer us)

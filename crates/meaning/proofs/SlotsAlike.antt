@@ -3,7 +3,6 @@
 use mathlib.Core.Path.{_≡_, refl, sym, ap, ap₂, subst⁻¹, _∙_}
 use mathlib.Core.Bool.{true, false}
 use Prim.Native.Nat.{ℕ, zero, suc, _≤_, _<_}
-use native.Mathlib.Omega.{arith}
 use mathlib.Core.List.{List, [], _∷_}
 use lib.ListN.{length}
 use Rattle.card.specs.declared.Card.{Card}
@@ -12,7 +11,7 @@ use Rattle.card.specs.Inventory.{still}
 use Rattle.walk.specs.declared.Walk.{Walk}
 use Rattle.walk.specs.declared.Slot.{Slot}
 use Rattle.walk.specs.Marks.{levels}
-use Rattle.walk.specs.Record.{isAccepted, isRunning}
+use Rattle.walk.specs.Record.{wholeMask, isAccepted, isRunning}
 use Rattle.walk.specs.Hear.{judged, hasPlace, walkAfter, listAfter}
 use Rattle.walk.specs.Ask.{Asking}
 use Rattle.walk.proofs.HearWays.{walk-heard, ended-heard}
@@ -22,7 +21,7 @@ use Rattle.field.specs.Played.{Play}
 use Rattle.field.specs.Played as field
 use Rattle.field.specs.Found.{listed}
 use Rattle.field.specs.Demand.{AllObey, cards}
-use Rattle.field.proofs.Called.{called, slotOf}
+use Rattle.field.proofs.Called.{called, slotOf, Starts}
 use Rattle.field.proofs.InTime.{Both, Before}
 use Rattle.field.proofs.WalkServed.{ended-asked}
 use Rattle.field.proofs.PlayedSlot.{SlotPlayed, slot-played, ended-played}
@@ -53,18 +52,19 @@ desk-heard : (w : Walk) (list : List ℕ) (air : Air) (slot : Slot) → isAccept
 unfolding deskAfter
 desk-heard w list air slot accepted running places heard = rw (walk-heard w (airKind air) (airBytes air) list accepted running places, heard)
 
-hears-alike : (tags : List Tag) (p : Play) → AllObey tags → isAccepted (p .walk) ≡ true → p .walk .level < 16 → isRunning (p .walk) ≡ true
-    → 64 ≤ length (p .list) → 14 ≤ length (p .room) → Before (p .walk .family) (p .walk .level) (p .walk .mask) (p .walk .slot) tags (p .tags)
+hears-alike : (tags : List Tag) (p : Play) → AllObey tags → Starts (length (p .walk .marks)) (answering (p .walk .family) tags)
+    → isAccepted (p .walk) ≡ true → p .walk .level < 16 → isRunning (p .walk) ≡ true → 64 ≤ length (p .list) → 14 ≤ length (p .room)
+    → Before (p .walk .family) (p .walk .level) (wholeMask (p .walk)) (p .walk .slot) tags (p .tags)
     → slotPlayed (benchOf p) ≡ benchOf (field.slotPlayed p)
 unfolding slotPlayed benchOf
-hears-alike tags p obey accepted level running places room before =
+hears-alike tags p obey starts accepted level running places room before =
     let w : Walk = p .walk in
     let q : Play = field.slotPlayed p in
     let slot : Slot = slotOf (called (answering (w .family) tags) w) in
-    let played : SlotPlayed (w .family) tags p q = slot-played (w .family) tags p obey accepted level running refl places room before in
+    let played : SlotPlayed (w .family) tags p q = slot-played (w .family) tags p obey starts accepted level running refl places room before in
     let turned : Both (Turned w) tags (p .tags) = row-turned w tags (p .tags) obey accepted level running before in
     ap₂ playedOf
-    (desk-heard w (p .list) (rowAir w stillAir (cards (p .tags))) slot accepted running places (row-judged w tags (p .tags) obey accepted turned)
+    (desk-heard w (p .list) (rowAir w stillAir (cards (p .tags))) slot accepted running places (row-judged w tags (p .tags) obey starts accepted turned)
     ∙ ap₂ deskOf (sym (played .walk)) (sym (played .list)))
     (row-left w tags (p .tags) turned ∙ sym (cards-of (w .family) w tags (q .tags) (played .tags)))
 
@@ -92,20 +92,25 @@ rests-alike p accepted ended =
 
 -- ---- slot after slot
 
-slots-alike : (family : ℕ) (tags : List Tag) (us : List ℕ) (n : ℕ) (p : Play) → AllObey tags → Stage levels family tags us n p
-    → slotPlayed (benchOf p) ≡ benchOf (field.slotPlayed p)
-unfolding levels
-slots-alike family tags us n p obey (hears places g h e f room count row) =
+-- the UIDs suit the walk's own levels, for its own family
+pub starts-own : {levels family : ℕ} (w : Walk) (tags : List Tag) → w .family ≡ family → length (w .marks) ≡ levels → Suits levels (answering family tags)
+    → Starts (length (w .marks)) (answering (w .family) tags)
+starts-own w tags f long fit = rw (f, long) (fit .starts)
+
+slots-alike : (family : ℕ) (tags : List Tag) (us : List ℕ) (n : ℕ) (p : Play) → AllObey tags → Suits levels (answering family tags)
+    → Stage levels family tags us n p → slotPlayed (benchOf p) ≡ benchOf (field.slotPlayed p)
+slots-alike family tags us n p obey fit (hears places g h e f room count row) =
     let w : Walk = p .walk in
     let ls : List ℕ = listed w (p .list) in
-    hears-alike tags p obey (walks-accepted w ls (w .slot) h (g .walks)) (walks-level w ls (w .slot) (omega arith) (g .walks)) (running-of w e) places room
-    (subst⁻¹ (λ (x : ℕ). Before x (w .level) (w .mask) (w .slot) tags (p .tags)) f row)
-slots-alike family tags us n p obey (rests places a r v row) = rests-alike p a r ∙ sym (ap benchOf (ended-played p a r))
+    hears-alike tags p obey (starts-own w tags f (g .walks .marks-length) fit) (walks-accepted w ls (w .slot) h (g .walks))
+    (walks-level w ls (w .slot) (fit .most) (g .walks)) (running-of w e) places room
+    (subst⁻¹ (λ (x : ℕ). Before x (w .level) (wholeMask w) (w .slot) tags (p .tags)) f row)
+slots-alike family tags us n p obey fit (rests places a r v row) = rests-alike p a r ∙ sym (ap benchOf (ended-played p a r))
 
 pub played-alike : (family : ℕ) (tags : List Tag) (n m : ℕ) (p : Play) → AllObey tags → Suits levels (answering family tags)
     → Stage levels family tags (answering family tags) m p → playedFor n (benchOf p) ≡ benchOf (field.playedFor n p)
 unfolding playedFor field.playedForBy
 played-alike family tags zero m p obey fit s = refl
 played-alike family tags (suc n) m p obey fit s =
-    ap (playedFor n) (slots-alike family tags (answering family tags) m p obey s)
+    ap (playedFor n) (slots-alike family tags (answering family tags) m p obey fit s)
     ∙ played-alike family tags n (suc m) (field.slotPlayed p) obey fit (stage-slot family tags m p obey fit s)

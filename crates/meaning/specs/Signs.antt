@@ -1,16 +1,17 @@
 -- What a sign of the picture says of the walk, and of the UIDs of the input.
-use Prim.Native.Nat.{ℕ, suc, _+_, _*_, _^_, _<_}
+use Prim.Native.Nat.{ℕ, suc, _+_, _*_, _^_}
 use mathlib.Core.Bool.{true, cond}
 use mathlib.Core.List.{List}
 use mathlib.Core.Path.{_≡_}
 use lib.Dec.{eqb}
-use lib.ListN.{length, getD}
+use lib.ListN.{length}
 use Rattle.tails.specs.Tails.{ending}
 use Rattle.walk.specs.declared.Walk.{Walk}
 use Rattle.walk.specs.declared.Slot.{Slot}
 use Rattle.walk.specs.declared.Slot.the-variants.{Silent, Clashed, Clean}
-use Rattle.walk.specs.Record.{isRunning}
+use Rattle.walk.specs.Record.{wholeMask, isRunning}
 use Rattle.walk.specs.Hear.{judged}
+use Rattle.field.specs.Found.{BeginE0}
 use Rattle.row.specs.declared.Air.{Air}
 use Rattle.row.specs.Row.{Played, stillAir, rowAir, airKind, airBytes, cardsOf, playedFor}
 use Rattle.row.specs.Play.{freshDesk}
@@ -32,16 +33,16 @@ airAt p = rowAir (p .desk .walk) stillAir (p .row)
 
 -- the UIDs that the slot calls: their last digits are the slot's above the mask
 unfoldable pub calledAt : List ℕ → Walk → List ℕ
-calledAt us w = ending (suc (w .level)) (w .mask + w .slot * 16 ^ w .level) us
+calledAt us w = ending (suc (w .level)) (wholeMask w + w .slot * 16 ^ w .level) us
 
 -- the sign of a slot that is heard
 pub record Signs (us : List ℕ) (p : Played) : Type 0 where
   pub walk : sign (airAt p) ≡ signOf (judged (p .desk .walk) (airKind (airAt p)) (airBytes (airAt p)))
   pub uids : sign (airAt p) ≡ signFor (length (calledAt us (p .desk .walk)))
 
--- for UIDs of 64 bits, as every good line has, after any number of slots
+-- for UIDs that begin with E0, as every good line's does, after any number of slots
 unfoldable pub signs : Type 0
 signs =
-    (us : List ℕ) → ((i : ℕ) → getD us i 0 < 2 ^ 64) → (n : ℕ)
+    (us : List ℕ) → BeginE0 us → (n : ℕ)
     → isRunning (playedFor n (record { desk = freshDesk; row = cardsOf us }) .desk .walk) ≡ true
     → Signs us (playedFor n (record { desk = freshDesk; row = cardsOf us }))

@@ -1,8 +1,8 @@
--- What is drawn has 19,303 bytes at the most. By induction over the slots: what is left to draw, and what stands of a line that has begun, are
--- within 40 bytes for each round from this one to 481. Assumes nothing.
+-- What is drawn has 16,743 bytes at the most. By induction over the slots: what is left to draw, and what stands of a line that has begun, are
+-- within 40 bytes for each round from this one to 417. Assumes nothing.
 use mathlib.Core.Path.{_≡_, refl, ap}
 use mathlib.Core.Bool.{Bool, true, false, cond, not, _||_}
-use Prim.Native.Nat.{ℕ, zero, suc, _+_, _-_, _*_, _≤_, _<_}
+use Prim.Native.Nat.{ℕ, zero, suc, _+_, _-_, _*_, _≤_}
 use native.Mathlib.Omega.{arith}
 use mathlib.Core.List.{List, [], _∷_}
 use borrow.Author.Tests.{eqb-true, ne-eqb}
@@ -75,7 +75,7 @@ within d f = within-accepted (accepted-of-is-accepted (d .walk) (f .accepted)) (
 
 -- a slot, and the rest
 slot-most : (w next : Walk) (air : Air) (rest : ℕ) → Within w → Within next → Moves w next → (isRunning next ≡ false → rest ≡ 0)
-    → rest + begun next ≤ 40 * (482 - next .rounds) → length (slotDrawn w air next) + rest + begun w ≤ 40 * (482 - w .rounds)
+    → rest + begun next ≤ 40 * (418 - next .rounds) → length (slotDrawn w air next) + rest + begun w ≤ 40 * (418 - w .rounds)
 slot-most w next air rest a b moves ends later = go (isRunning next) refl moves
   where
     line : length (slotDrawn w air next) + begun w ≡ 24 + w .slot + cond (eqb (w .slot) 15 || not (isRunning next)) 1 0
@@ -84,7 +84,7 @@ slot-most w next air rest a b moves ends later = go (isRunning next) refl moves
     one : cond (eqb (w .slot) 15 || not (isRunning next)) 1 0 ≤ 1
     one = one-most (eqb (w .slot) 15 || not (isRunning next))
 
-    go : (t : Bool) → isRunning next ≡ t → Moves w next → length (slotDrawn w air next) + rest + begun w ≤ 40 * (482 - w .rounds)
+    go : (t : Bool) → isRunning next ≡ t → Moves w next → length (slotDrawn w air next) + rest + begun w ≤ 40 * (418 - w .rounds)
     go false e m = omega (arith, line, one, ends e, a .slot, a .rounds)
     go true e (stops f) = omega (arith, line, one, ends f, a .slot, a .rounds)
     go true e (steps h f g) =
@@ -92,13 +92,13 @@ slot-most w next air rest a b moves ends later = go (isRunning next) refl moves
         omega (arith, line, open-line, later, begun-next next (w .slot) f, g)
     go true e (opens h f g) = omega (arith, line, one, h, later, g, b .rounds)
 
-none-most : (w : Walk) → Within w → 0 + begun w ≤ 40 * (482 - w .rounds)
+none-most : (w : Walk) → Within w → 0 + begun w ≤ 40 * (418 - w .rounds)
 none-most w a = omega (arith, begun-most w, a .slot, a .rounds)
 
 -- one slot more to draw, from what is left after it
 more-most : (n : ℕ) (p : Played) → Fit (p .desk)
-    → length (drawnFor n (slotPlayed p)) + begun (slotPlayed p .desk .walk) ≤ 40 * (482 - slotPlayed p .desk .walk .rounds)
-    → length (drawnFor (suc n) p) + begun (p .desk .walk) ≤ 40 * (482 - p .desk .walk .rounds)
+    → length (drawnFor n (slotPlayed p)) + begun (slotPlayed p .desk .walk) ≤ 40 * (418 - slotPlayed p .desk .walk .rounds)
+    → length (drawnFor (suc n) p) + begun (p .desk .walk) ≤ 40 * (418 - p .desk .walk .rounds)
 unfolding drawnFor slotPlayed
 more-most n p f later = go (isRunning w) refl
   where
@@ -117,24 +117,24 @@ more-most n p f later = go (isRunning w) refl
     b : Within next
     b = within (deskAfter (p .desk) air) (after-fit (p .desk) air f)
 
-    go : (t : Bool) → isRunning w ≡ t → length (drawnFor (suc n) p) + begun w ≤ 40 * (482 - w .rounds)
+    go : (t : Bool) → isRunning w ≡ t → length (drawnFor (suc n) p) + begun w ≤ 40 * (418 - w .rounds)
     go false e = rw e (none-most w a)
     go true e =
         rw (e, length-append)
         (slot-most w next air (length (drawnFor n (slotPlayed p))) a b (desk-moves (p .desk) air f e (a .slot))
         (λ z. ap length (none-drawn n (slotPlayed p) z)) later)
 
-left-most : (n : ℕ) (p : Played) → Fit (p .desk) → length (drawnFor n p) + begun (p .desk .walk) ≤ 40 * (482 - p .desk .walk .rounds)
+left-most : (n : ℕ) (p : Played) → Fit (p .desk) → length (drawnFor n p) + begun (p .desk .walk) ≤ 40 * (418 - p .desk .walk .rounds)
 unfolding drawnFor slotPlayed
 left-most zero p f = none-most (p .desk .walk) (within (p .desk) f)
 left-most (suc n) p f = more-most n p f (left-most n (slotPlayed p) (after-fit (p .desk) (rowAir (p .desk .walk) stillAir (p .row)) f))
 
 -- ---- all that is drawn
 
-pub walk-most : (us : List ℕ) → length (drawnFor (mostSlots levels) (record { desk = freshDesk; row = cardsOf us })) ≤ 19240
+pub walk-most : (us : List ℕ) → length (drawnFor (mostSlots levels) (record { desk = freshDesk; row = cardsOf us })) ≤ 16680
 unfolding freshDesk started startedOf begun
 walk-most us = omega (arith, left-most (mostSlots levels) (record { desk = freshDesk; row = cardsOf us }) fresh-fit)
 
-pub drawn-most : (us : List ℕ) → length (drawn us) ≤ 19303
+pub drawn-most : (us : List ℕ) → length (drawn us) ≤ 16743
 unfolding drawn heading
 drawn-most us = rw (length-append, length-append) (omega (arith, walk-most us, length-twins (ended us)))

@@ -58,11 +58,11 @@ after-moves : (w : Walk) (slot : Slot) (place : Bool) → w .slot ≤ 15 → Mov
 unfolding walkAfter ended remade isRunning
 after-moves w slot place h = by-test (eqb (endsAtOnce w slot place) 0) w _ _ (λ e. noted-moves w slot h) (λ e. stops e)
 
--- ---- a desk whose walk is accepted and has 16 levels at the most, with a list of 64 places
+-- ---- a desk whose walk is accepted and has fourteen levels at the most, with a list of 64 places
 
 pub record Fit (d : Desk) : Type 0 where
   pub accepted : isAccepted (d .walk) ≡ true
-  pub few : length (d .walk .marks) ≤ 16
+  pub few : length (d .walk .marks) ≤ 14
   pub places : length (d .list) ≡ 64
 
 pub fresh-fit : Fit freshDesk

@@ -8,7 +8,6 @@ use lib.ListN.{length, take, replicate, length-append, length-replicate}
 use Rattle.lent.specs.Puts.{PutsAt}
 use Rattle.lent.proofs.Puts.{puts-then}
 use Rattle.hex.specs.Digits.{digit, hexDigits}
-use Rattle.hex.specs.Decimal.{decimal}
 use Rattle.hex.proofs.Digits.{length-hex-digits}
 use Rattle.hex.proofs.Decimal.{decimal-one, decimal-more}
 use Rattle.picture.specs.Drawn.{roundShown, tailShown}

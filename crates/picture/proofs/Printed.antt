@@ -54,7 +54,7 @@ printed-within {input} {part} {left} p same room =
 
 -- ---- the number, at and the count added as i64
 
-sum-is : (at n : ℕ) (r : ℤ) → r ≡ pos n → at ≤ 19303 → n ≤ 1200 → toZ w64 at +ℤ toZ w64 (ofZ w64 r) ≡ pos (at + n)
+sum-is : (at n : ℕ) (r : ℤ) → r ≡ pos n → at ≤ 16743 → n ≤ 1200 → toZ w64 at +ℤ toZ w64 (ofZ w64 r) ≡ pos (at + n)
 sum-is at n r is h k = rw (is, toZ-pos w64 at (omega arith), toZ-pos w64 n (omega arith)) refl
 
 -- ---- both, for the part from at to at + 1200
@@ -64,7 +64,7 @@ pub record PrintedAt (at : ℕ) (input e : List ℕ) (r : ℤ) (left : List ℕ)
   pub count : toZ w64 (ofZ w64 (toZ w64 at +ℤ toZ w64 (ofZ w64 r))) ≡ pos (at + length (printed input))
   pub leaves : putMid at (at + 1200 - at) e left ≡ placed at (printed input) e
 
-pub printed-at : (at : ℕ) (input e : List ℕ) {r : ℤ} {left : List ℕ} → at ≤ 19303 → at + 1200 ≤ length e
+pub printed-at : (at : ℕ) (input e : List ℕ) {r : ℤ} {left : List ℕ} → at ≤ 16743 → at + 1200 ≤ length e
     → Prints input (midOf at (at + 1200 - at) e) r left → length left ≡ length (midOf at (at + 1200 - at) e) → PrintedAt at input e r left
 printed-at at input e {r} {left} h room p same =
     let long : length (midOf at (at + 1200 - at) e) ≡ at + 1200 - at = mid-len at (at + 1200) e room in

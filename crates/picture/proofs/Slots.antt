@@ -26,8 +26,8 @@ use Rattle.picture.proofs.OneSlot.{playOf, take-cards, slot-of-first, p
 
 -- k slots are drawn, from place first of the buffer e on
 pub record Drawing (whole : List ℕ) (end : Desk) (first : ℕ) (e : List ℕ) (k : ℕ) (desk : Desk) (row : List Card) (at : ℕ) (out : List ℕ) : Type 0 where
-  pub most : length whole ≤ 19240
-  pub room : first + 19240 ≤ length e
+  pub most : length whole ≤ 16680
+  pub room : first + 16680 ≤ length e
   pub fit : Fit desk
   pub so-far : List ℕ
   pub drawn-left : so-far ++ drawnFor (mostSlots levels - k) (playOf desk row) ≡ whole
@@ -40,8 +40,8 @@ wholeOf desk row = drawnFor (mostSlots levels) (playOf desk row)
 abbrev pub endOf : Desk → List Card → Desk
 endOf desk row = playedFor (mostSlots levels) (playOf desk row) .desk
 
-pub drawing-none : (desk : Desk) (row : List Card) (at : ℕ) (e : List ℕ) → Fit desk → length (wholeOf desk row) ≤ 19240
-    → at + 19240 ≤ length e → Drawing (wholeOf desk row) (endOf desk row) at e 0 desk row at e
+pub drawing-none : (desk : Desk) (row : List Card) (at : ℕ) (e : List ℕ) → Fit desk → length (wholeOf desk row) ≤ 16680
+    → at + 16680 ≤ length e → Drawing (wholeOf desk row) (endOf desk row) at e 0 desk row at e
 drawing-none desk row at e f h k =
     record { most = h; room = k; fit = f; so-far = []; drawn-left = rw (sub-zero (mostSlots levels)); desk-left = rw (sub-zero (mostSlots levels)); puts = puts-none at e }
 
@@ -52,7 +52,7 @@ part-most s rest whole e =
     omega (arith, ap length e, both)
 
 pub drawing-room : {whole e out : List ℕ} {end desk : Desk} {row : List Card} {first k at : ℕ} → Drawing whole end first e k desk row at out
-    → at ≤ first + 19240
+    → at ≤ first + 16680
 drawing-room d = omega (arith, part-most (d .so-far) _ _ (d .drawn-left), d .most, d .puts .next)
 
 -- a slot more over the first n cards
@@ -119,7 +119,7 @@ drawing-over {whole} {e} {out} {end} {desk} {row} {first} {k} {at} d over = go (
 -- ---- all that is drawn, over the first n cards of a row that was dealt
 
 pub dealt-most : (us : List ℕ) (n : ℕ) {desk : Desk} {row : List Card} → desk ≡ freshDesk → row ≡ cardsOf us
-    → length (wholeOf desk (take n row)) ≤ 19240
+    → length (wholeOf desk (take n row)) ≤ 16680
 dealt-most us n d r = rw (d, r, take-cards n us) (walk-most (take n us))
 
 pub drawn-puts : (us : List ℕ) (n : ℕ) {desk₀ desk : Desk} {row : List Card} {m at r : ℕ} {room e out left : List ℕ} → desk₀ ≡ freshDesk

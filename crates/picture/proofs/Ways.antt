@@ -17,17 +17,17 @@ use Rattle.lines.proofs.Reading.{reads-of-read}
 use Rattle.report.specs.Bench.{printed, mostPrinted, benchAnswer, benchLeaves, Prints}
 use Rattle.picture.specs.Drawn.{drawn, pictured, mostPictured, pictureAnswer, pictureLeaves, Pictures}
 
-pub pictures-short : (input room : List ℕ) → length room < 20503 → Pictures input room (refused 8) room
+pub pictures-short : (input room : List ℕ) → length room < 17943 → Pictures input room (refused 8) room
 unfolding pictureAnswer pictureLeaves mostPictured
-pictures-short input room h = record { answer = rw (lt-leb 20503 (length room) h); leaves = rw (lt-leb 20503 (length room) h) }
+pictures-short input room h = record { answer = rw (lt-leb 17943 (length room) h); leaves = rw (lt-leb 17943 (length room) h) }
 
-pictures-all : (input room left : List ℕ) (r : ℤ) → 20503 ≤ length room → r ≡ pos (length (pictured input)) → left ≡ over (pictured input) room
+pictures-all : (input room left : List ℕ) (r : ℤ) → 17943 ≤ length room → r ≡ pos (length (pictured input)) → left ≡ over (pictured input) room
     → Pictures input room r left
 unfolding pictureAnswer pictureLeaves mostPictured
 pictures-all input room left r h n l =
-    record { answer = rw (le-leb 20503 (length room) h) n; leaves = rw (le-leb 20503 (length room) h) l }
+    record { answer = rw (le-leb 17943 (length room) h) n; leaves = rw (le-leb 17943 (length room) h) l }
 
-pub pictures-wrong : (input room left : List ℕ) (s : Lines) (r : ℤ) → s ≡ readFrom freshLines input → (s .bad ≡ 0 → ⊥) → 20503 ≤ length room
+pub pictures-wrong : (input room left : List ℕ) (s : Lines) (r : ℤ) → s ≡ readFrom freshLines input → (s .bad ≡ 0 → ⊥) → 17943 ≤ length room
     → Prints input room r left → Pictures input room r left
 unfolding benchAnswer benchLeaves mostPrinted pictured
 pictures-wrong input room left s r k bad h p =
@@ -41,7 +41,7 @@ over-then : (s v e : List ℕ) → placed (length s) v (over s e) ≡ over (s ++
 unfolding over placed
 over-then s v e = rw (take-append-seam, drop-append-add, drop-drop, length-append)
 
-pub pictures-drawn : (input room e left : List ℕ) (s : Lines) (at : ℕ) (r : ℤ) → s ≡ readFrom freshLines input → s .bad ≡ 0 → 20503 ≤ length room
+pub pictures-drawn : (input room e left : List ℕ) (s : Lines) (at : ℕ) (r : ℤ) → s ≡ readFrom freshLines input → s .bad ≡ 0 → 17943 ≤ length room
     → Puts (drawn (take (s .count) (s .uids))) room at e → r ≡ pos (at + length (printed input)) → left ≡ placed at (printed input) e
     → Pictures input room r left
 unfolding pictured

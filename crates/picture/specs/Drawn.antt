@@ -9,7 +9,7 @@ use lib.ListN.{length, replicate}
 use Rattle.lent.specs.Lent.{over, refused}
 use Rattle.walk.specs.declared.Walk.{Walk}
 use Rattle.walk.specs.Marks.{levels}
-use Rattle.walk.specs.Record.{mostSlots, twins, isRunning}
+use Rattle.walk.specs.Record.{mostSlots, wholeMask, twins, isRunning}
 use Rattle.row.specs.declared.Air.{Air}
 use Rattle.row.specs.declared.Desk.{Desk}
 use Rattle.row.specs.Row.{Played, stillAir, rowAir, slotPlayed, cardsOf}
@@ -33,7 +33,7 @@ tailShown level mask = replicate (16 - level) 0x2d ++ hexDigits level mask
 
 -- what a round's line begins with
 unfoldable pub lineHead : Walk → List ℕ
-lineHead w = roundShown (w .rounds) ++ 0x20 ∷ tailShown (w .level) (w .mask) ++ 0x20 ∷ []
+lineHead w = roundShown (w .rounds) ++ 0x20 ∷ tailShown (w .level) (wholeMask w) ++ 0x20 ∷ []
 
 -- what a slot adds: the head before slot 0, its sign, and the line's end after slot 15 or at an ending
 unfoldable pub slotDrawn : Walk → Air → Walk → List ℕ
@@ -56,11 +56,16 @@ heading =
     ∷ 0x20 ∷ 0x20 ∷ 0x20 ∷ 0x20 ∷ 0x20 ∷ 0x30 ∷ 0x31 ∷ 0x32 ∷ 0x33 ∷ 0x34 ∷ 0x35 ∷ 0x36 ∷ 0x37 ∷ 0x38 ∷ 0x39 ∷ 0x41 ∷ 0x42 ∷ 0x43
     ∷ 0x44 ∷ 0x45 ∷ 0x46 ∷ 0x0a ∷ []
 
--- the UID that two cards share, where the walk ended in twins: the slot digit above the mask of 15 digits, after the word twins
+-- the UID that two cards share, where the walk ended in twins. 02, W6: "a clash at mask length 34 is twins", so the slot digit stands above a mask of 13
+-- digits, and E0 above both
+unfoldable pub twinsUid : Walk → ℕ
+twinsUid w = 0xe0 * 2 ^ 56 + w .slot * 2 ^ 52 + wholeMask w
+
+-- its line, after the word twins
 unfoldable pub twinsLine : Desk → List ℕ
 twinsLine d =
     cond (eqb (d .walk .ending) twins)
-    (0x74 ∷ 0x77 ∷ 0x69 ∷ 0x6e ∷ 0x73 ∷ 0x20 ∷ tailShown 16 (d .walk .slot * 2 ^ 60 + d .walk .mask) ++ 0x0a ∷ [])
+    (0x74 ∷ 0x77 ∷ 0x69 ∷ 0x6e ∷ 0x73 ∷ 0x20 ∷ tailShown 16 (twinsUid (d .walk)) ++ 0x0a ∷ [])
     []
 
 unfoldable pub drawn : List ℕ → List ℕ
@@ -70,9 +75,9 @@ drawn us = heading ++ drawnFor (mostSlots levels) (record { desk = freshDesk; ro
 unfoldable pub pictured : List ℕ → List ℕ
 pictured input = cond (eqb (badLine input) 0) (drawn (uids input)) [] ++ printed input
 
--- room for all that can be drawn and printed: 482 lines of 40 bytes, the twins' line of 23, and the bench's 1200
+-- room for all that can be drawn and printed: 418 lines of 40 bytes (the heading and 417 rounds), the twins' line of 23, and the bench's 1200
 unfoldable pub mostPictured : ℕ
-mostPictured = 20503
+mostPictured = 17943
 
 -- what `picture` promises: the picture at the start of the room and its length, or number 8
 unfoldable pub pictureAnswer : List ℕ → List ℕ → ℤ

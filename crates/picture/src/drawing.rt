@@ -59,7 +59,7 @@ fn put_head(walk: Walk, out: &mut [u8], at: usize) -> usize
     }
     let number = round(walk.rounds as u64);
     let place = put(&number, out, at);
-    let next = put_tail(walk.level as usize, walk.mask, out, place);
+    let next = put_tail(walk.level as usize, walk.mask(), out, place);
     put(b" ", out, next)
 }
 
@@ -97,14 +97,14 @@ fn put_twins(desk: Desk, out: &mut [u8], at: usize) -> usize
         return at;
     }
     let place = put(b"twins ", out, at);
-    let uid = ((walk.slot as u64) << 60) + walk.mask;
+    let uid = (0xe0 << 56) + ((walk.slot as u64) << 52) + walk.mask();
     let next = put_digits(uid, 16, out, place);
     put(b"\n", out, next)
 }
 
 // All that is drawn of a walk over the cards of the first n UIDs.
 pub(crate) fn draw(uids: [u64; 100], n: usize, out: &mut [u8]) -> usize
-    requires { ⌜ 20503 ≤ length (now out) ⌝ }
+    requires { ⌜ 17943 ≤ length (now out) ⌝ }
     ensures { λ r. ⌜ Puts (drawn (take n uids)) (now (out .entry)) r (now (out .exit)) ⌝ }
 {
     let mut at = put(b"round tail             0123456789ABCDEF\n", out, 0);

@@ -11,7 +11,7 @@ use lines::read;
 use report::bench::bench;
 
 // Room for all that can be drawn and printed, and for what is printed.
-const MOST_PICTURED: usize = 20503;
+const MOST_PICTURED: usize = 17943;
 
 const MOST_PRINTED: usize = 1200;
 
@@ -20,7 +20,7 @@ const ROOM_SHORT: i64 = -8;
 
 // Prints what the bench prints at a place of the room, and returns the place after it.
 fn put_printed(input: &[u8], out: &mut [u8], at: usize) -> i64
-    requires { ⌜ at ≤ 19303 ⌝ }
+    requires { ⌜ at ≤ 16743 ⌝ }
     requires { ⌜ at + 1200 ≤ length (now out) ⌝ }
     ensures { λ r. ⌜ r ≡ pos (at + length (printed (now (input .entry)))) ⌝ }
     ensures { λ _. ⌜ now (out .exit) ≡ placed at (printed (now (input .entry))) (now (out .entry)) ⌝ }

@@ -43,7 +43,7 @@ slotted row n d =
 
 -- ---- all slots
 
--- whether a slot is still to be heard after n, of all that a walk of 16 levels can have
+-- whether a slot is still to be heard after n, of all that a walk of 02's fourteen levels can have
 unfoldable pub goesOn : Desk → ℕ → Bool
 goesOn d n = ltb n (mostSlots levels) && isRunning (d .walk)
 

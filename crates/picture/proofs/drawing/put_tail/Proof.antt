@@ -1,7 +1,6 @@
 -- `picture::drawing::put_tail` meets its contract: what is free, and the digits after it (Pieces.antt). Assumes nothing.
 use native.Mathlib.Omega.{arith}
 use borrow.Author.Needs.{needs}
-use Rattle.hex.proofs.Digits.{length-hex-digits}
 use Rattle.picture.proofs.Pieces.{length-free, tail-puts}
 use Rattle.picture.proofs.drawing.put_tail.Statement.{statement}
 use Rattle.picture.proofs.drawing.put_tail.Tie as tie
