@@ -42,7 +42,7 @@ tells-of-hears h k heard r list p e same = record {
   list-left = p .list-left ∙ ap (λ (g : Hearing). g .list) same;
 }
 
--- what is sent has 14 bytes at the most
+-- what is sent has 14 bytes at the most, by a walk of up to sixteen levels
 length-sent-most : (w : Walk) → w .level < 16 → lengthOf (sent w) ≤ 14
 unfolding lengthOf sent
 length-sent-most w h = go (isRunning w) (eqb (w .slot) 0)

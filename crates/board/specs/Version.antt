@@ -7,4 +7,4 @@ versionNumber major minor patch = 65536 * major + 256 * minor + patch
 
 -- this version
 unfoldable pub version : ℕ
-version = versionNumber 2 4 0
+version = versionNumber 3 0 0

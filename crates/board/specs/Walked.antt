@@ -22,7 +22,7 @@ pub record HearsInPlace (h : Hearing) (r : ℤ) (walk : Walk) (list : List ℕ) 
 
 -- ---- asking: "request, slot mark or nothing"
 
--- by its length: a request has 5 to 14 bytes, a slot mark is one, and nothing is none
+-- by its length: a request has 5 to 13 bytes, a slot mark is one, and nothing is none
 unfoldable pub lengthOf : Send → ℕ
 lengthOf Nothing = 0
 lengthOf Mark = 1

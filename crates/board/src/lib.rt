@@ -20,9 +20,9 @@ use crate::in_place::minus;
 use play::Served;
 
 // The version, as the file VERSION and the header have it.
-const MAJOR: u32 = 2;
+const MAJOR: u32 = 3;
 
-const MINOR: u32 = 4;
+const MINOR: u32 = 0;
 
 const PATCH: u32 = 0;
 

@@ -24,7 +24,6 @@ use Rattle.hex.specs.Decimal.{decimal, isDecimal, decimalValue}
 use Rattle.hex.specs.Rows.{isRow, rowBytes, rowText}
 use Rattle.hex.proofs.RoundTrip.{row-of-bytes, bytes-of-row, row-of-its-bytes}
 use Rattle.hex.proofs.DecimalRoundTrip.{decimal-of-number, number-of-decimal, decimal-zero, decimal-front, decimal-of-its-number}
-use Rattle.slots.specs.Fits.{fitsSlot}
 use Rattle.tracks.specs.Track.{trackOf, slotMark}
 use Rattle.tracks.specs.Coder.{Codes}
 use Rattle.tracks.specs.Decoder.{told, Decodes}
@@ -83,24 +82,28 @@ use Rattle.board.proofs.ErrorShown.{error-shows-c-nothing}
 use Rattle.walk.specs.declared.Walk.{Walk}
 use Rattle.walk.specs.declared.Kind.{Kind}
 use Rattle.walk.specs.declared.Slot.the-variants.{Clean}
-use Rattle.walk.specs.Record.{maskLength, started, isRunning, complete}
+use Rattle.walk.specs.Record.{started, isRunning, complete, twins}
 use Rattle.walk.specs.Hear.{judged}
 use Rattle.walk.specs.Shared as shared
 use Rattle.walk.specs.Shared.{startRefusal, starting, SharedHearing, sharedHearing}
 use Rattle.walk.specs.Examples.{Walks}
 use Rattle.walk.proofs.Examples.{walks}
 use Rattle.field.specs.Field.{Arrival, Obeys, arrives, listens, answers, answering}
-use Rattle.field.specs.Played.{playedForBy, playedFor, fresh}
-use Rattle.field.specs.Found.{Found}
+use Rattle.field.specs.Played.{Play, playedForBy, playedFor, freshOf, fresh}
+use Rattle.field.specs.Found.{BeginE0, Found}
 use Rattle.field.specs.Answering.{isHeard, heardOnce}
-use Rattle.field.specs.Replies.{heardAll, Holds, anyReplies}
-use Rattle.field.specs.Demand.{AllObey, Demand3, demand3, roundsCounted, roundsKept}
+use Rattle.field.specs.Replies.{FitsClean, heardAll, Holds, anyReplies}
+use Rattle.field.specs.Demand.{AllObey, Demand3In, Demand3, demand3, roundsCounted, roundsKept}
+use Rattle.field.specs.TwoLevels.{lowBitsTell, sixteenLevels, twoLevelsTooMany, SameFound, nothingLost}
+use Rattle.field.specs.Foreign.{FoundAny, anyUids}
 use Rattle.field.specs.Examples.{FieldOfThree}
 use Rattle.field.specs.Families.{Calling, calling, tookPart, passedOver, Families}
-use Rattle.field.proofs.AnyWalk.{judged-fits, walk-of-any-replies}
+use Rattle.field.proofs.AnyWalk.{judged-clean, walk-of-any-replies}
 use Rattle.tails.specs.Tails.{sharedTails}
 use Rattle.field.proofs.Demand3.{walk-of-a-field, found-rounds}
 use Rattle.field.proofs.Rounds.{rounds-of-a-field, rounds-after-a-field}
+use Rattle.field.proofs.TwoLevels.{low-bits-tell, walk-of-sixteen-levels, two-levels-too-many, nothing-lost}
+use Rattle.field.proofs.Foreign.{walk-of-any-uids}
 use Rattle.field.proofs.Answering.{card-heard-once}
 use Rattle.field.proofs.TableOne.{modes-heard, none-asked, all-asked, family-asked, only-asked}
 use Rattle.field.proofs.Calling.{family-requested}
@@ -108,21 +111,21 @@ use Rattle.field.proofs.Families.{families}
 use Rattle.field.proofs.Examples.{field-of-three}
 use Rattle.racks.specs.Calls.{OneList, Shareable, owned, rowsOf, Call, listAfterCall}
 use Rattle.racks.specs.OneCall.{FullExactly, fullExactly, TheRow, theRow, Frees, startFrees, Keeps, otherKeeps, refusedAsBefore, ServedAfterStart, servedAfterStart, Alike, SameHeard, freeRowsAlone}
-use Rattle.racks.specs.Rack.{Happening, ownEvents, playedOn, startedOn, DemandOn, rackDemand3}
+use Rattle.racks.specs.Rack.{Desk, Happening, ownEvents, playedOn, startedOn, DemandOn, FoundAnyOn, rackDemand3, rackAnyUids}
 use Rattle.racks.specs.Replies.{RackWalk, freshOn, happensAll, HoldsOn, anyRepliesOn, TwoRacks, starts, turned, Move, turnedAll, BothGoOn, bothGoOn, bothGoOnLater}
 use Rattle.racks.specs.Examples.{MayEndFull, oneRowEach, SharedNumbers}
-use Rattle.racks.proofs.Demand.{demand-on-a-rack}
+use Rattle.racks.proofs.Demand.{demand-on-a-rack, any-uids-on-a-rack}
 use Rattle.racks.proofs.OneCall.{full-exactly, the-row, start-frees}
 use Rattle.racks.proofs.Other.{other-keeps, refused-as-before, served-after-start, free-rows-alone}
 use Rattle.racks.proofs.Replies.{any-replies-on, both-go-on, both-go-on-later}
 use Rattle.racks.proofs.Examples.{may-end-full, one-row-each, shared-numbers}
 use Rattle.chorus.specs.Air.{heardAs, coilAir, heardBy, numberHeard, differentRows, coilArrives}
 use Rattle.chorus.specs.Different.{differentAnswers, uidsOf, EachOnce}
-use Rattle.chorus.specs.Demand.{DsfidsFit, onCoilPlayed, coilDemand3, TwinsMean, coilTwins}
+use Rattle.chorus.specs.Demand.{DsfidsFit, onCoilPlayed, coilDemand3, coilAnyUids, TwinsMean, coilTwins}
 use Rattle.chorus.specs.Examples.{CoilFields}
 use Rattle.chorus.proofs.Air.{number-heard, coil-arrives}
 use Rattle.chorus.proofs.Different.{each-once}
-use Rattle.chorus.proofs.Apart.{coil-demand3}
+use Rattle.chorus.proofs.Apart.{coil-demand3, coil-any-uids}
 use Rattle.chorus.proofs.Twins.{coil-twins}
 use Rattle.chorus.proofs.Examples.{coil-fields}
 use Rattle.row.specs.Row.{cardsOf}
@@ -137,12 +140,13 @@ use Rattle.report.specs.Bench.{printed}
 use Rattle.report.proofs.Start.{printed-of-start}
 use Rattle.picture.specs.Drawn.{pictured}
 use Rattle.picture.proofs.Start.{pictured-of-start}
-use Rattle.meaning.specs.Bench.{Meaning, meaning}
+use Rattle.meaning.specs.Bench.{Meaning, meaning, TwinsShown, twinsNamed}
 use Rattle.meaning.specs.Signs.{Signs, signs}
 use Rattle.meaning.specs.Examples.{Bench, ThreeDrawn}
 use Rattle.meaning.proofs.Bench.{bench-meets-demand3}
-use Rattle.meaning.proofs.Printed.{printed-meets-demand3}
+use Rattle.meaning.proofs.Printed.{input-begins, printed-meets-demand3}
 use Rattle.meaning.proofs.Signs.{every-sign}
+use Rattle.meaning.proofs.Twins.{twins-named}
 use Rattle.meaning.proofs.ThreePrinted.{bench}
 use Rattle.meaning.proofs.ThreeDrawn.{picture-of-three}
 
@@ -348,32 +352,32 @@ the-longest-request = longest-made
 
 -- ---- The walk
 
--- Whatever a walk hears from its start on, true or false (`Holds`): its record is always one that number 10 accepts, no UID is listed twice, while
--- it runs its round count is that of the slots heard, and it has ended after 16 × 481 slots.
+-- Whatever a walk hears from its start on, true or false (`Holds`): its record is always one that number 10 accepts, no UID is listed twice, each that is
+-- listed begins with E0, while it runs its round count is that of the slots heard, and it has ended after 16 × 417 slots.
 walking-over-any-replies : (family : ℕ) (list : List ℕ) (arrivals : List Arrival) → 64 ≤ length list
     → Holds (length arrivals) (heardAll arrivals (record { walk = started family; list = list }))
 unfolding anyReplies
 walking-over-any-replies = walk-of-any-replies
 
--- A UID that is taken for clean fits the mask and the slot that it was heard in.
-clean-fits : (w : Walk) (k : Kind) (bytes : List ℕ) (u : ℕ) → judged w k bytes ≡ Clean u
-    → fitsSlot u (maskLength (w .level)) (w .mask) (w .slot) ≡ true
-clean-fits = judged-fits
+-- A UID that is taken for clean fits the mask and the slot that it was heard in, and begins with E0 where the walk has fourteen levels (`FitsClean`).
+clean-fits : (w : Walk) (k : Kind) (bytes : List ℕ) (u : ℕ) → judged w k bytes ≡ Clean u → FitsClean w u
+clean-fits = judged-clean
 
 -- ---- Demand 3
 
 -- Any cards whose records, memory, lock bytes and room are not refused (`AllObey`), in any mode and with anything held or running; any family; a list
--- of 64 places or more. Each thing that a fresh walk sends reaches every card, one reply arrives whole, two or more arrive as a clash. Then the walk
--- ends within 16 × 481 slots. It ends complete exactly if at most 64 cards answer its family and no two of these share a UID; the list then holds
--- each of them once and the walk counts as many; the round count is one more than the number of tails of 1 to 15 digits that two or more of them
--- share. Otherwise it ends twins, and then two that answer share a UID, or full, and then more than 64 answer. Every card keeps all but its sequence
--- and its held answer. All this is `Demand3`, crates/field/specs/Demand.antt with Found.antt beside it.
-demand-three : (family : ℕ) (tags : List Tag) (list room : List ℕ) → AllObey tags → 64 ≤ length list → 14 ≤ length room
-    → Demand3 family tags (answering family tags) (playedFor (16 * 481) (fresh family list room tags))
+-- of 64 places or more; the UIDs of the cards that answer begin with E0, those of the others with anything. Each thing that a fresh walk sends reaches
+-- every card, one reply arrives whole, two or more arrive as a clash. Then the walk ends within 16 × 417 slots. It ends complete exactly if at most 64
+-- cards answer its family and no two of these share a UID; the list then holds each of them once and the walk counts as many; the round count is one more
+-- than the number of tails of 1 to 13 digits that two or more of them share. Otherwise it ends twins, and then two that answer share a UID whose last
+-- fourteen digits mask and slot tell, or full, and then more than 64 answer. Every card keeps all but its sequence and its held answer. All this is
+-- `Demand3`, crates/field/specs/Demand.antt with Found.antt beside it.
+demand-three : (family : ℕ) (tags : List Tag) (list room : List ℕ) → AllObey tags → BeginE0 (answering family tags) → 64 ≤ length list → 14 ≤ length room
+    → Demand3 family tags (answering family tags) (playedFor (16 * 417) (fresh family list room tags))
 unfolding demand3
 demand-three = walk-of-a-field
 
--- What it says of the rounds, in demand 3's words: one more than the tails of 1 to 15 digits that two or more share.
+-- What it says of the rounds, in demand 3's words: one more than the tails of 1 to 13 digits that two or more share.
 rounds-and-tails : (us : List ℕ) (w : Walk) (list : List ℕ) → Found us w list → w .ending ≡ complete → w .rounds ≡ 1 + sharedTails us
 rounds-and-tails = found-rounds
 
@@ -390,6 +394,46 @@ rounds-at-the-end : (family : ℕ) (tags : List Tag) (list room : List ℕ) → 
     → playedFor (suc n) (fresh family list room tags) .walk .rounds ≡ playedFor n (fresh family list room tags) .walk .rounds
 unfolding roundsKept
 rounds-at-the-end = rounds-after-a-field
+
+-- ---- Fourteen levels in place of sixteen (02)
+
+-- Two different UIDs that begin with E0 differ within their low 56 bits.
+fifty-six-bits-tell : (u v : ℕ) → u / 2 ^ 56 ≡ 0xe0 → v / 2 ^ 56 ≡ 0xe0 → u % 2 ^ 56 ≡ v % 2 ^ 56 → u ≡ v
+unfolding lowBitsTell
+fifty-six-bits-tell = low-bits-tell
+
+-- Two levels too many: 01's walk of sixteen levels over cards as in demand 3, those that answer having UIDs that begin with E0. If it ends complete, then
+-- after every number of slots its level is 13 at the most: it never opens mask length 38 or 3C.
+two-levels-never-opened : (family : ℕ) (tags : List Tag) (list room : List ℕ) → AllObey tags → BeginE0 (answering family tags) → 64 ≤ length list
+    → 14 ≤ length room → (m : ℕ) → playedFor m (freshOf 16 family list room tags) .walk .ending ≡ complete
+    → (n : ℕ) → playedFor n (freshOf 16 family list room tags) .walk .level ≤ 13
+unfolding twoLevelsTooMany
+two-levels-never-opened = two-levels-too-many
+
+-- Nothing is lost: the same cards under fourteen levels and under sixteen. One walk ends complete exactly if the other does; then both lists hold the same
+-- UIDs, and the rounds are equal. With at most 64 answering the endings are always the same (`SameFound`).
+nothing-is-lost : (family : ℕ) (tags : List Tag) (list room list′ room′ : List ℕ) → AllObey tags → BeginE0 (answering family tags)
+    → 64 ≤ length list → 14 ≤ length room → 64 ≤ length list′ → 14 ≤ length room′
+    → SameFound (answering family tags) (playedFor (16 * 417) (fresh family list room tags)) (playedFor (16 * 481) (freshOf 16 family list′ room′ tags))
+unfolding nothingLost
+nothing-is-lost = nothing-lost
+
+-- Demand 3 without its premise, of cards whose UIDs begin with anything. The walk ends, never in overrun. If it ends complete, all cards that answer have
+-- UIDs that begin with E0, and demand 3 holds of them: a tag with another first byte is never passed over in silence. If one with another first byte
+-- answers, the walk ends twins or full, and always twins where at most 64 count, such a UID counting as two (`FoundAny`).
+whatever-uids-begin-with : (family : ℕ) (tags : List Tag) (list room : List ℕ) → AllObey tags → 64 ≤ length list → 14 ≤ length room
+    → let p : Play = playedFor (16 * 417) (fresh family list room tags) in
+    FoundAny (answering family tags) (p .walk) (p .list)
+unfolding anyUids
+whatever-uids-begin-with = walk-of-any-uids
+
+-- The walk of sixteen levels itself, whatever the UIDs begin with: demand 3 as 01 has it, with tails of 1 to 15 digits and 16 × 481 slots.
+demand-three-of-sixteen-levels : (family : ℕ) (tags : List Tag) (list room : List ℕ) → AllObey tags → 64 ≤ length list → 14 ≤ length room
+    → Demand3In 15 family tags (answering family tags) (playedFor (16 * 481) (freshOf 16 family list room tags))
+unfolding sixteenLevels
+demand-three-of-sixteen-levels = walk-of-sixteen-levels
+
+-- ---- The cards that answer
 
 -- The cards that answer a family are just those that are heard: a card in any state hears a fresh walk's request and then fifteen slot marks; it is
 -- heard in one of these sixteen slots, that of its UID's lowest digit, if it answers, else in none.
@@ -428,16 +472,26 @@ a-request-for-a-family = family-requested
 
 -- ---- Two racks, one list (02)
 
--- Demand 3 for a rack. Any cards that obey, any family; any rows and marks that number 5 accepts (`Shareable`), the other rack owning 40 rows at the most; whatever walk stood
+-- Demand 3 for a rack. Any cards that obey, any family, the UIDs of those that answer beginning with E0; any rows and marks that number 5 accepts (`Shareable`), the other rack owning 40 rows at the most; whatever walk stood
 -- there. The rack is started, and then any events happen: slots of its own, played over its cards, and any calls with another number, of the other rack or of none, starts
--- and hearings over any record with any bytes, refused or not. After 16 × 481 of its own slots its walk has ended, never in overrun. Where at most 24 cards answer it ends
+-- and hearings over any record with any bytes, refused or not. After 16 × 417 of its own slots its walk has ended, never in overrun. Where at most 24 cards answer it ends
 -- complete if no two share a UID, else in twins; complete, at most 40 answer, no two share a UID, the rows that it owns hold each once and the round count is demand 3's; twins,
 -- two that answer share a UID; full, more than 24 answer. Every card keeps all but its sequence and its held answer. All this is `DemandOn`, crates/racks/specs/Rack.antt.
 demand-three-for-a-rack : (rack family : ℕ) (w : Walk) (tags : List Tag) (l : OneList) (room : List ℕ) (events : List (Happening (Unit {0}) rack))
-    → rack ≤ 1 → AllObey tags → Shareable l → owned (1 - rack) l ≤ 40 → 14 ≤ length room → 16 * 481 ≤ ownEvents events
+    → rack ≤ 1 → AllObey tags → BeginE0 (answering family tags) → Shareable l → owned (1 - rack) l ≤ 40 → 14 ≤ length room
+    → 16 * 417 ≤ ownEvents events
     → DemandOn rack family tags (playedOn rack events (startedOn rack w family l room tags))
 unfolding rackDemand3
 demand-three-for-a-rack = demand-on-a-rack
+
+-- Without the premise, of UIDs that begin with anything: complete tells that all that answer begin with E0, and demand 3 for a rack holds of them; where one does not, and at most 24
+-- count, such a UID counting as two, the walk ends in twins (`FoundAnyOn`).
+whatever-begins-on-a-rack : (rack family : ℕ) (w : Walk) (tags : List Tag) (l : OneList) (room : List ℕ) (events : List (Happening (Unit {0}) rack))
+    → rack ≤ 1 → AllObey tags → Shareable l → owned (1 - rack) l ≤ 40 → 14 ≤ length room → 16 * 417 ≤ ownEvents events
+    → let d : Desk = playedOn rack events (startedOn rack w family l room tags) in
+    FoundAnyOn (answering family tags) (d .walk) (rowsOf rack (d .list))
+unfolding rackAnyUids
+whatever-begins-on-a-rack = any-uids-on-a-rack
 
 -- It may end full from 25 on, alike UIDs or not: 25 different cards, and 27 of which two are alike, each with 40 rows of the other rack. Both are full with 24 listed.
 a-rack-may-end-full : MayEndFull
@@ -486,8 +540,8 @@ only-the-free-rows : (w : Walk) (rack : ℕ) (kind : Kind) (bytes : List ℕ) (l
 unfolding freeRowsAlone
 only-the-free-rows = free-rows-alone
 
--- Whatever a rack hears from its start on, true or false, and whatever calls for the other come in between: no UID stands twice among its rows, its hearing gives 0 while it runs
--- and 6 after its ending, and it has ended after 16 × 481 of its slots.
+-- Whatever a rack hears from its start on, true or false, and whatever calls for the other come in between: no UID stands twice among its rows, each of them
+-- begins with E0, its hearing gives 0 while it runs and 6 after its ending, and it has ended after 16 × 417 of its slots.
 a-rack-over-any-replies : (rack family : ℕ) (p : RackWalk) (events : List (Happening Arrival rack)) → rack ≤ 1 → Shareable (p .list) → owned (1 - rack) (p .list) ≤ 40
     → HoldsOn rack (ownEvents events) (happensAll rack events (freshOn rack family p))
 unfolding anyRepliesOn
@@ -564,11 +618,19 @@ unfolding numberHeard
 what-the-walk-is-told = number-heard
 
 -- Demand 3 on the coil, word for word, of the different answers, pairs of UID and DSFID, of the cards that answer the family: any cards as in demand 3 whose
--- DSFIDs are bytes. Each slot the answers of all cards that speak are coded, laid over each other and decoded, and the walk hears what comes of it.
-demand-three-on-the-coil : (family : ℕ) (tags : List Tag) (list room : List ℕ) → AllObey tags → DsfidsFit tags → 64 ≤ length list → 14 ≤ length room
-    → Demand3 family tags (uidsOf (differentAnswers family tags)) (playedForBy coilAir (16 * 481) (fresh family list room tags))
+-- DSFIDs are bytes, those that answer having UIDs that begin with E0. Each slot the answers of all cards that speak are coded, laid over each other and decoded, and the walk hears what comes of it.
+demand-three-on-the-coil : (family : ℕ) (tags : List Tag) (list room : List ℕ) → AllObey tags → DsfidsFit tags → BeginE0 (answering family tags)
+    → 64 ≤ length list → 14 ≤ length room
+    → Demand3 family tags (uidsOf (differentAnswers family tags)) (playedForBy coilAir (16 * 417) (fresh family list room tags))
 unfolding coilDemand3 onCoilPlayed
 demand-three-on-the-coil = coil-demand3
+
+-- Without the premise, of UIDs that begin with anything: as in 01's air, complete tells that all that answer begin with E0, and demand 3 holds of them.
+whatever-begins-on-the-coil : (family : ℕ) (tags : List Tag) (list room : List ℕ) → AllObey tags → DsfidsFit tags → 64 ≤ length list → 14 ≤ length room
+    → let p : Play = playedForBy coilAir (16 * 417) (fresh family list room tags) in
+    FoundAny (uidsOf (differentAnswers family tags)) (p .walk) (p .list)
+unfolding coilAnyUids onCoilPlayed
+whatever-begins-on-the-coil = coil-any-uids
 
 -- Each different answer is counted once: one that some card gives that answers the family stands once among them, any other not at all.
 each-answer-once : EachOnce
@@ -576,21 +638,25 @@ each-answer-once = each-once
 
 -- What twins means there: it ends so only if two cards that answer have one UID and different DSFIDs; with at most 64 different answers these always end it so,
 -- and where there are none it ends complete. Cards alike in both do no harm.
-twins-on-the-coil : (family : ℕ) (tags : List Tag) (list room : List ℕ) → AllObey tags → DsfidsFit tags → 64 ≤ length list → 14 ≤ length room
-    → TwinsMean family tags (playedForBy coilAir (16 * 481) (fresh family list room tags) .walk)
+twins-on-the-coil : (family : ℕ) (tags : List Tag) (list room : List ℕ) → AllObey tags → DsfidsFit tags → BeginE0 (answering family tags)
+    → 64 ≤ length list → 14 ≤ length room → TwinsMean family tags (playedForBy coilAir (16 * 417) (fresh family list room tags) .walk)
 unfolding coilTwins onCoilPlayed
 twins-on-the-coil = coil-twins
 
 -- ---- The bench
 
--- Demand 3 for the bench's row: what a walk that has ended over the cards of given UIDs says of these.
-the-end-of-a-walk : (us : List ℕ) → ((i : ℕ) → getD us i 0 < 2 ^ 64) → Meaning us (ended us)
+-- Demand 3 for the bench's row: what a walk that has ended over the cards of given UIDs, all beginning with E0, says of these.
+the-end-of-a-walk : (us : List ℕ) → BeginE0 us → Meaning us (ended us)
 unfolding meaning
 the-end-of-a-walk = bench-meets-demand3
 
 -- Reading byte by byte finds the first wrong line of an input, or, where there is none, its UIDs.
 what-is-read : (input : List ℕ) → reading.Reads input (readFrom freshLines input)
 what-is-read = reads-input
+
+-- Every UID of an input with no wrong line begins with E0.
+every-line-begins-with-e0 : (input : List ℕ) → badLine input ≡ 0 → BeginE0 (uids input)
+every-line-begins-with-e0 = input-begins
 
 -- What the bench prints for an input with no wrong line is the report of a walk's end, and demand 3 holds of that end and of the input's UIDs.
 what-is-printed : (input : List ℕ) → badLine input ≡ 0 → (printed input ≡ report (ended (uids input))) × Meaning (uids input) (ended (uids input))
@@ -603,11 +669,16 @@ the-start-is-enough = printed-of-start
 -- ---- The picture
 
 -- Each sign of the picture says what the walk makes of the slot, silent, clean or clash, and how many of the input's UIDs the slot calls.
-what-is-drawn : (us : List ℕ) → ((i : ℕ) → getD us i 0 < 2 ^ 64) → (n : ℕ)
+what-is-drawn : (us : List ℕ) → BeginE0 us → (n : ℕ)
     → isRunning (row.playedFor n (record { desk = freshDesk; row = cardsOf us }) .desk .walk) ≡ true
     → Signs us (row.playedFor n (record { desk = freshDesk; row = cardsOf us }))
 unfolding signs
 what-is-drawn = every-sign
+
+-- Where the walk ends in twins, the line of twins shows the sixteen digits of a UID that stands twice in the input (`TwinsShown`).
+the-twins-line : (us : List ℕ) → BeginE0 us → ended us .walk .ending ≡ twins → TwinsShown us
+unfolding twinsNamed
+the-twins-line = twins-named
 
 -- No input needs more to be read than its first 1,701 bytes.
 the-start-is-drawn : (k : ℕ) (input : List ℕ) → 1701 ≤ k → pictured (take k input) ≡ pictured input

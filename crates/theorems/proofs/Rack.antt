@@ -13,7 +13,7 @@ use denote.Ref.{now}
 use Rattle.walk.specs.Ask.{Asks, asking}
 use Rattle.walk.specs.Hear.{Hears, hearing}
 use Rattle.walk.specs.Shared.{starting, Starts, sharedHearing, HearsShared}
-use Rattle.walk.specs.Record.{isAccepted, started}
+use Rattle.walk.specs.Record.{wholeMask, isAccepted, started}
 use Rattle.reader.specs.Request.{Makes}
 use Rattle.reader.specs.Reading.{Reads, reading}
 use Rattle.row.specs.Play.{ended, freshDesk, goesOn, slotted}
@@ -32,6 +32,7 @@ use Rattle.walk.proofs.Walk.hear as walk-hear
 use Rattle.walk.proofs.Walk.start_shared as walk-start-shared
 use Rattle.walk.proofs.Walk.hear_shared as walk-hear-shared
 use Rattle.walk.proofs.Walk.start as walk-start
+use Rattle.walk.proofs.Walk.mask as walk-mask
 use Rattle.walk.proofs.Walk.is_accepted as walk-is-accepted
 use Rattle.reader.proofs.Request.make as request-make
 use Rattle.reader.proofs.Request.read as request-read
@@ -81,6 +82,9 @@ module _ {M : Type 1} (𝓤 : URA M) (H : Heap 𝓤) (A : Atoms 𝓤) (mem : Mem
   walk-start-contract : Contract 𝓤 H A walk-start.ended (walk-start.spec 𝓤 H A mem run) (walk-start.clauses 𝓤 H A mem run)
       (λ κs a r e. r ≡ started (a .0))
   walk-start-contract = kept 𝓤 H A walk-start.ended _ _ _ refl (λ κs a. (tt, id⊢ 𝓤 _)) (λ κs a g r e. id⊢ 𝓤 _) (λ κs a r s x y p q. (p ∙ sym q, refl))
+
+  walk-mask-contract : Contract 𝓤 H A walk-mask.ended (walk-mask.spec 𝓤 H A mem run) (walk-mask.clauses 𝓤 H A mem run) (λ κs a r e. r ≡ wholeMask (a .0))
+  walk-mask-contract = kept 𝓤 H A walk-mask.ended _ _ _ refl (λ κs a. (tt, id⊢ 𝓤 _)) (λ κs a g r e. id⊢ 𝓤 _) (λ κs a r s x y p q. (p ∙ sym q, refl))
 
   walk-is-accepted-contract : Contract 𝓤 H A walk-is-accepted.ended (walk-is-accepted.spec 𝓤 H A mem run) (walk-is-accepted.clauses 𝓤 H A mem run)
       (λ κs a r e. r ≡ isAccepted (a .0))
