@@ -1,9 +1,17 @@
-//! Fields of UIDs: random ones, and crowded ones that give a walk work.
+//! Fields of UIDs: random ones, and crowded ones that give a walk work. All begin
+//! with E0 until some are made to begin otherwise.
 
 use crate::random::Random;
 
 pub const MOST: usize = 100;
-const DIGITS: usize = 16;
+/// The digits of a UID behind its first byte.
+const DIGITS: usize = 14;
+/// The bits of these.
+const BITS: usize = 4 * DIGITS;
+/// First bytes that might be taken for E0; all that differ in one bit are among them.
+const OTHERS: [u8; 16] = [
+    0x00, 0xD0, 0xE1, 0xE2, 0xE4, 0xE8, 0xF0, 0xC0, 0xA0, 0x60, 0x0E, 0xFF, 0xEF, 0xDF, 0x07, 0xEE,
+];
 
 pub type Crowd = fn(&mut Random, usize) -> Vec<u64>;
 
@@ -41,8 +49,38 @@ pub fn digit(uid: u64, place: usize) -> u64 {
     uid >> (4 * place) & 15
 }
 
-pub fn random_ones(random: &mut Random, count: usize) -> Vec<u64> {
+pub fn with_first_byte(uid: u64, first: u8) -> u64 {
+    uid & !(0xFF << BITS) | u64::from(first) << BITS
+}
+
+/// Any UID, which begins with E0.
+pub fn any_uid(random: &mut Random) -> u64 {
+    with_first_byte(random.number(), 0xE0)
+}
+
+/// Any byte but E0.
+pub fn other_first_byte(random: &mut Random) -> u8 {
+    let any = 0xE0u8.wrapping_add(1 + random.below(255) as u8);
+    let near = random.pick(&OTHERS);
+    random.pick(&[any, near])
+}
+
+/// Gives one in so many of the UIDs another first byte.
+pub fn make_some_foreign(random: &mut Random, uids: &mut [u64], times: usize) {
+    for uid in uids {
+        if random.once_in(times) {
+            *uid = with_first_byte(*uid, other_first_byte(random));
+        }
+    }
+}
+
+/// What stands in places before they are used, so with any first byte.
+pub fn noise(random: &mut Random, count: usize) -> Vec<u64> {
     (0..count).map(|_| random.number()).collect()
+}
+
+pub fn random_ones(random: &mut Random, count: usize) -> Vec<u64> {
+    (0..count).map(|_| any_uid(random)).collect()
 }
 
 /// UIDs that branch off one another above a tail of any length.
@@ -51,7 +89,7 @@ fn long_tails(random: &mut Random, count: usize) -> Vec<u64> {
     while uids.len() < count {
         let shared = random.below(DIGITS);
         let other = random.pick(&uids);
-        let above = random.number() << (4 * shared);
+        let above = any_uid(random) >> (4 * shared) << (4 * shared);
         let mut uid = other & !(u64::MAX << (4 * shared)) | above;
         if random.once_in(2) {
             uid = with_digit(other, shared, random.number() & 15);
@@ -68,7 +106,7 @@ fn long_tails(random: &mut Random, count: usize) -> Vec<u64> {
 fn few_digits(random: &mut Random, count: usize) -> Vec<u64> {
     let two = [random.number() & 15, random.number() & 15];
     let free = random.below(DIGITS + 1);
-    let base = random.number();
+    let base = any_uid(random);
     let mut one = || {
         let place = |uid, place| match (place + free) % 3 {
             0 => uid,
@@ -79,24 +117,29 @@ fn few_digits(random: &mut Random, count: usize) -> Vec<u64> {
     (0..count).map(|_| one()).collect()
 }
 
-/// Pairs that differ in the top digit alone.
+/// Pairs that differ in the fourteenth digit alone.
 fn top_pairs(random: &mut Random, count: usize) -> Vec<u64> {
     let mut uids = random_ones(random, count / 2);
-    let partners: Vec<u64> =
-        uids.iter().map(|uid| uid ^ (1 + random.below(15) as u64) << 60).collect();
+    let partners: Vec<u64> = uids.iter().map(|uid| partner(random, *uid)).collect();
     uids.extend(partners);
     uids.extend(random_ones(random, count % 2));
     shuffle(random, &mut uids);
     uids
 }
 
+/// Differs in the fourteenth digit alone.
+fn partner(random: &mut Random, uid: u64) -> u64 {
+    uid ^ (1 + random.below(15) as u64) << (4 * (DIGITS - 1))
+}
+
 /// Two alike, and for some depths another that leaves them just there.
 fn twins(random: &mut Random, count: usize) -> Vec<u64> {
-    let twin = random.number();
+    let twin = any_uid(random);
     let mut uids = vec![twin; count.min(2)];
     while uids.len() < count {
         let depth = random.below(DIGITS);
-        let leaving = random.number() << (4 * depth) | twin & !(u64::MAX << (4 * depth));
+        let above = any_uid(random) >> (4 * depth) << (4 * depth);
+        let leaving = above | twin & !(u64::MAX << (4 * depth));
         let turned = (digit(twin, depth) + 1 + random.below(15) as u64) % 16;
         uids.push(with_digit(leaving, depth, turned));
     }
@@ -106,11 +149,11 @@ fn twins(random: &mut Random, count: usize) -> Vec<u64> {
 
 /// One UID, and others that differ from it in one digit.
 fn near_twins(random: &mut Random, count: usize) -> Vec<u64> {
-    let one = random.number();
+    let one = any_uid(random);
     let mut uids = vec![one; count.min(1)];
     while uids.len() < count {
         let other = random.below(DIGITS);
-        let place = random.pick(&[0, 1, 13, 14, 15, other]);
+        let place = random.pick(&[0, 1, 11, 12, 13, other]);
         let uid = with_digit(one, place, random.number() & 15);
         if !uids.contains(&uid) || random.once_in(40) {
             uids.push(uid);
@@ -121,10 +164,10 @@ fn near_twins(random: &mut Random, count: usize) -> Vec<u64> {
 }
 
 fn all_alike(random: &mut Random, count: usize) -> Vec<u64> {
-    vec![random.number(); count]
+    vec![any_uid(random); count]
 }
 
-/// Pairs that differ in the top digit alone, spread over the low digits: no
+/// Pairs that differ in the fourteenth digit alone, spread over the low digits: no
 /// fields take more rounds.
 pub fn worst(random: &mut Random, count: usize) -> Vec<u64> {
     let spread = |(place, uid): (usize, u64)| {
@@ -133,8 +176,7 @@ pub fn worst(random: &mut Random, count: usize) -> Vec<u64> {
     };
     let pairs: Vec<u64> =
         random_ones(random, count / 2).into_iter().enumerate().map(spread).collect();
-    let mut uids: Vec<u64> =
-        pairs.iter().flat_map(|&uid| [uid, uid ^ (1 + random.below(15) as u64) << 60]).collect();
+    let mut uids: Vec<u64> = pairs.iter().flat_map(|&uid| [uid, partner(random, uid)]).collect();
     shuffle(random, &mut uids);
     uids
 }

@@ -39,6 +39,8 @@ pub const GROUPS: &[(&str, Group)] = &[
     ("cards", cards::run),
     ("families", families::run),
     ("walks", walks::run),
+    ("walks, first bytes", walks::first_bytes::run),
+    ("walks, records at the limits", walks::limits::run),
     ("fields", fields::run),
     ("reader", reader::exchanges::run),
     ("reader, other answers", reader::answers::run),

@@ -3,11 +3,12 @@
 //!
 //! Written from the rules page ("Check and byte order", "Pulse tracks", "The
 //! card", "The walk", "Numbers of refused calls", "Bench", "Examples"), the
-//! change requests W1 to W3 and W5, Table 1 of ISO/IEC 15693-3, clauses 8.5.2,
-//! 8.6.2 and 8.6.4 of ISO/IEC 15693-2 and the C header. It works on sequences of
-//! single bits, digits, written digits, intervals and units, keeps what waits
-//! in sets and a shared list in a map, and looks tracks up in a dictionary, so
-//! that it shares no way of working with the library. Clear, not fast.
+//! change requests W1 to W3, W5 and W6, Table 1 and clause 4.1 of ISO/IEC
+//! 15693-3, clauses 8.5.2, 8.6.2 and 8.6.4 of ISO/IEC 15693-2 and the C header.
+//! It works on sequences of single bits, digits, written digits, intervals and
+//! units, keeps what waits in sets and a shared list in a map, and looks tracks
+//! up in a dictionary, so that it shares no way of working with the library.
+//! Clear, not fast.
 
 pub mod bench;
 pub mod card;

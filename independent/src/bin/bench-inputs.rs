@@ -14,7 +14,12 @@ const SEED: u64 = 15693;
 /// A kind of input: its name and one of it.
 type Kind = (&'static str, fn(&mut Random) -> Vec<u8>);
 
-const KINDS: [Kind; 24] = [
+/// What some lines begin with in place of E0.
+const FIRST_BYTES: [[u8; 2]; 4] = [*b"e0", *b"D0", *b"E1", *b"00"];
+/// Where: lines 1, 50 and 100.
+const PLACES: [usize; 3] = [0, 49, 99];
+
+const KINDS: [Kind; 28] = [
     ("field of up to 100", |random| lines(&field(random, 101))),
     ("field of up to 8", |random| lines(&field(random, 9))),
     ("crowded field of 64", |random| lines(&crowd(random, 64))),
@@ -36,6 +41,16 @@ const KINDS: [Kind; 24] = [
     ("another byte for a digit", |random| {
         with_line(random, |random, line| other_byte(random, line))
     }),
+    ("another first byte", |random| with_line(random, |random, line| any_first_byte(random, line))),
+    ("another first byte in line 1, 50 or 100", |random| {
+        let place = random.pick(&PLACES);
+        with_first_bytes(random, &[place])
+    }),
+    ("another first byte in lines 1, 50 and 100", |random| {
+        let from = random.below(PLACES.len());
+        with_first_bytes(random, &PLACES[from..])
+    }),
+    ("another first byte and another fault", two_faults),
     ("a digit for 0A", joined),
     ("line 101", line_101),
     ("two bad lines", two_bad),
@@ -165,13 +180,46 @@ fn other_byte(random: &mut Random, line: &mut [u8]) {
     turn(random, line, byte);
 }
 
+fn any_first_byte(random: &mut Random, line: &mut [u8]) {
+    let first = format!("{:02X}", crowds::other_first_byte(random));
+    line[..2].copy_from_slice(first.as_bytes());
+}
+
+/// A hundred lines, of which these begin with something else.
+fn with_first_bytes(random: &mut Random, places: &[usize]) -> Vec<u8> {
+    let mut rows: Vec<Vec<u8>> = crowd(random, 100).into_iter().map(line).collect();
+    for &place in places {
+        rows[place][..2].copy_from_slice(&random.pick(&FIRST_BYTES));
+    }
+    ended(random, rows)
+}
+
+/// The first of two faults counts, or both are in one line.
+fn two_faults(random: &mut Random) -> Vec<u8> {
+    let mut rows: Vec<Vec<u8>> = crowd(random, 100).into_iter().map(line).collect();
+    let [one, other] = [(); 2].map(|()| random.below(rows.len()));
+    let next = (one + 1).min(rows.len() - 1);
+    let other = random.pick(&[other, other, one, next]);
+    rows[one][..2].copy_from_slice(&random.pick(&FIRST_BYTES));
+    let row = &mut rows[other];
+    match random.below(6) {
+        0 => row.clear(),
+        1 => lower_case(random, row),
+        2 => cut_one(random, row),
+        3 => put_one(random, row, b'0'),
+        4 => row.push(b'\r'),
+        _ => other_byte(random, row),
+    }
+    ended(random, rows)
+}
+
 fn with_0d(input: Vec<u8>) -> Vec<u8> {
     input.into_iter().map(|byte| if byte == b'\n' { b'\r' } else { byte }).collect()
 }
 
 fn joined(random: &mut Random) -> Vec<u8> {
     let mut input = lines(&field(random, 101));
-    input.extend(lines(&[1, 2]));
+    input.extend(lines(&crowds::random_ones(random, 2)));
     let place = 16 + 17 * random.below(input.len() / 17);
     input[place] = b'0';
     input
@@ -203,7 +251,7 @@ fn two_bad(random: &mut Random) -> Vec<u8> {
 
 fn damaged(random: &mut Random) -> Vec<u8> {
     let mut input = lines(&field(random, 101));
-    input.extend(line(random.number()));
+    input.extend(line(crowds::any_uid(random)));
     let place = random.below(input.len());
     match random.below(5) {
         0 => input.truncate(place),

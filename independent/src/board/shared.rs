@@ -1,19 +1,19 @@
 //! The walk's functions over a list that two racks share. The owners' marks are
 //! a byte for each row.
 
-use super::walk::PLACE;
+use super::walk::{Record, PLACE};
 use super::Lent;
 
 extern "C" {
     fn ek_shared_start(
-        walk: *mut u64,
+        walk: *mut Record,
         rack: u32,
         family: u16,
         owners: *mut u8,
         marks: usize,
     ) -> i64;
     fn ek_shared_hear_silence(
-        walk: *mut u64,
+        walk: *mut Record,
         rack: u32,
         rows: *mut u64,
         places: usize,
@@ -21,7 +21,7 @@ extern "C" {
         marks: usize,
     ) -> i64;
     fn ek_shared_hear_clash(
-        walk: *mut u64,
+        walk: *mut Record,
         rack: u32,
         rows: *mut u64,
         places: usize,
@@ -29,7 +29,7 @@ extern "C" {
         marks: usize,
     ) -> i64;
     fn ek_shared_hear_bytes(
-        walk: *mut u64,
+        walk: *mut Record,
         rack: u32,
         bytes: *const u8,
         length: usize,
@@ -43,15 +43,15 @@ extern "C" {
 // Sound for the reason that the walk's other calls are.
 
 pub fn start(record: Lent, rack: u32, family: u16, marks: Lent) -> i64 {
-    unsafe { ek_shared_start(record.aligned(), rack, family, marks.start, marks.length) }
+    unsafe { ek_shared_start(record.record(), rack, family, marks.start, marks.length) }
 }
 
 /// Hearing silence and hearing a clash have one type.
-type Hear = unsafe extern "C" fn(*mut u64, u32, *mut u64, usize, *mut u8, usize) -> i64;
+type Hear = unsafe extern "C" fn(*mut Record, u32, *mut u64, usize, *mut u8, usize) -> i64;
 
 fn hear(call: Hear, record: Lent, rack: u32, rows: Lent, marks: Lent) -> i64 {
     let places = rows.length / PLACE;
-    unsafe { call(record.aligned(), rack, rows.aligned(), places, marks.start, marks.length) }
+    unsafe { call(record.record(), rack, rows.places(), places, marks.start, marks.length) }
 }
 
 pub fn hear_silence(record: Lent, rack: u32, rows: Lent, marks: Lent) -> i64 {
@@ -65,11 +65,11 @@ pub fn hear_clash(record: Lent, rack: u32, rows: Lent, marks: Lent) -> i64 {
 pub fn hear_bytes(record: Lent, rack: u32, bytes: Lent, rows: Lent, marks: Lent) -> i64 {
     unsafe {
         ek_shared_hear_bytes(
-            record.aligned(),
+            record.record(),
             rack,
             bytes.start,
             bytes.length,
-            rows.aligned(),
+            rows.places(),
             rows.length / PLACE,
             marks.start,
             marks.length,

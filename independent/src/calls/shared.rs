@@ -16,9 +16,9 @@ pub struct Areas {
 }
 
 impl Areas {
-    /// Guards of whole places keep record and rows aligned.
+    /// As for a list of one rack.
     pub fn new() -> Areas {
-        Areas { record: Area::new(64), rows: Area::new(64), marks: Area::new(64) }
+        Areas { record: Area::new(60), rows: Area::new(64), marks: Area::new(64) }
     }
 }
 

@@ -15,9 +15,10 @@ pub struct Areas {
 }
 
 impl Areas {
-    /// Guards of whole places keep record and list aligned.
+    /// Guards of whole places keep the list aligned; the record stands at half of
+    /// one, since it needs no more.
     pub fn new() -> Areas {
-        Areas { record: Area::new(64), list: Area::new(64), room: Area::new(32) }
+        Areas { record: Area::new(60), list: Area::new(64), room: Area::new(32) }
     }
 }
 

@@ -10,15 +10,16 @@ mod reasons;
 mod refusals;
 
 use crate::calls::Calls;
-use crate::crowds::{self, shuffle};
+use crate::crowds::{self, make_some_foreign, shuffle};
 use crate::groups::fields::families;
 use crate::groups::walks::records::family;
 use crate::groups::walks::replies::{self, falsely, fits, fitting, reply, Manner, TRUE};
 use crate::random::Random;
 use crate::reference::card::Card;
 use crate::reference::field::{self, card, together};
-use crate::reference::tails::all_differ;
+use crate::reference::tails::can_be_told;
 use crate::reference::walk::{Heard, REQUEST_ROOM};
+pub use arm::marks;
 use arm::Arm;
 use kinds::Kinds;
 
@@ -64,6 +65,10 @@ impl Field {
         shuffle(random, &mut uids);
         if random.once_in(3) {
             uids.truncate(random.below(CARDS));
+        }
+        if random.once_in(4) {
+            let times = random.pick(&[2, 10, 40]);
+            make_some_foreign(random, &mut uids, times);
         }
         let (family, afis) = families::any(random);
         let mixed = random.once_in(4);
@@ -127,9 +132,11 @@ fn slot(
     hear(calls, kinds, arm, rack, name, &heard);
     if let Some(ending) = arm.walk(rack).ending {
         kinds.ended_from_start(ending);
-        // No UID is listed twice in a walk, even with false replies.
+        // No UID is listed twice in a walk or begins otherwise, even with false
+        // replies.
         let listed = arm.list().of(rack as u8);
-        calls.tally.count(all_differ(&listed), || format!("listed twice: {listed:016X?}"));
+        let right = can_be_told(&listed);
+        calls.tally.count(right, || format!("listed twice, or not E0: {listed:016X?}"));
     }
 }
 
@@ -163,7 +170,8 @@ fn from_records(calls: &mut Calls, random: &mut Random, kinds: &mut Kinds) {
 fn any_heard(random: &mut Random, arm: &Arm, rack: usize) -> (&'static str, Heard) {
     let walk = arm.walk(rack);
     if random.once_in(2) {
-        let (_, uids) = crowds::any(random, 3);
+        let (_, mut uids) = crowds::any(random, 3);
+        make_some_foreign(random, &mut uids, 4);
         return replies::any(random, &walk, &uids, Manner::FalseOnceIn(2));
     }
     let others = arm.list().of(1 - rack as u8);

@@ -1,22 +1,23 @@
 //! Walks from their start, through fields and false replies, and from any
 //! record that is accepted, with calls that are refused among them.
 
+pub mod first_bytes;
 pub mod kinds;
+pub mod limits;
 pub mod records;
 pub mod refusals;
 pub mod replies;
 
-use std::collections::BTreeSet;
-
 use crate::calls::Calls;
-use crate::crowds;
+use crate::crowds::{self, make_some_foreign};
 use crate::random::Random;
+use crate::reference::tails::can_be_told;
 use crate::reference::walk::record::{read, RECORD};
 use crate::reference::walk::PLACES;
 use kinds::Kinds;
 use replies::Manner;
 
-const WALKS: usize = 240;
+const WALKS: usize = 320;
 const RECORDS: usize = 10_000;
 const SLOTS_EACH: usize = 24;
 
@@ -47,17 +48,21 @@ pub fn run(calls: &mut Calls, random: &mut Random) {
 }
 
 fn from_start(calls: &mut Calls, random: &mut Random, kinds: &mut Kinds, manner: Manner) {
-    let (name, uids) = crowds::any(random, crowds::MOST);
-    kinds.field(name, uids.len());
+    let (name, mut uids) = crowds::any(random, crowds::MOST);
+    if random.once_in(4) {
+        let times = random.pick(&[1, 10, 40]);
+        make_some_foreign(random, &mut uids, times);
+    }
+    kinds.field(name, &uids);
     let mut reader = Reader { record: random.bytes(RECORD), list: list(random) };
     calls.walk_start(&mut reader.record, records::family(random));
     while slot(calls, random, kinds, &mut reader, &uids, manner) {}
     let walk = read(&reader.record).expect("a right record");
     kinds.ended_from_start(&walk);
-    // No UID is listed twice, even with false replies.
+    // No UID is listed twice or begins otherwise, even with false replies.
     let listed = &reader.list[..walk.listed];
-    let once = listed.iter().collect::<BTreeSet<_>>().len() == listed.len();
-    calls.tally.count(once, || format!("listed twice: {listed:016X?}"));
+    let right = can_be_told(listed);
+    calls.tally.count(right, || format!("listed twice, or not E0: {listed:016X?}"));
 }
 
 fn from_record(calls: &mut Calls, random: &mut Random, kinds: &mut Kinds) {
@@ -65,7 +70,8 @@ fn from_record(calls: &mut Calls, random: &mut Random, kinds: &mut Kinds) {
     let manner = Manner::FalseOnceIn(random.pick(&[1, 2, 4]));
     let slots = 1 + random.below(SLOTS_EACH);
     for _ in 0..slots {
-        let (_, uids) = crowds::any(random, 3);
+        let (_, mut uids) = crowds::any(random, 3);
+        make_some_foreign(random, &mut uids, 4);
         if !slot(calls, random, kinds, &mut reader, &uids, manner) {
             break;
         }
@@ -75,7 +81,7 @@ fn from_record(calls: &mut Calls, random: &mut Random, kinds: &mut Kinds) {
 /// A list of 64 places or more, with anything in them.
 fn list(random: &mut Random) -> Vec<u64> {
     let places = PLACES + random.pick(&[0, 0, 0, 1, 7, 192]);
-    crowds::random_ones(random, places)
+    crowds::noise(random, places)
 }
 
 /// What to send, and then a slot. False once the walk has ended.

@@ -3,9 +3,13 @@
 
 use std::io::{self, BufRead};
 
-use super::walk::{Ending, LEVELS, PLACES, ROUNDS};
+use super::tails::begins_with_e0;
+use super::walk::{Ending, Limits, FOURTEEN, PLACES};
 
 pub const CARDS: usize = 100;
+/// The digits of a line, and what they begin with.
+const LINE: usize = 16;
+const BEGINNING: &[u8] = b"E0";
 const DIGITS: &[u8; 16] = b"0123456789ABCDEF";
 
 /// What the bench prints.
@@ -35,8 +39,8 @@ fn uids(input: impl BufRead) -> io::Result<Result<Vec<u64>, usize>> {
                 }
                 None => return Ok(Err(number)),
             },
-            _ if line.len() == LEVELS || !DIGITS.contains(&byte) => return Ok(Err(number)),
-            _ => line.push(byte),
+            _ if goes_on(&line, byte) => line.push(byte),
+            _ => return Ok(Err(number)),
         }
     }
     if !line.is_empty() {
@@ -48,8 +52,16 @@ fn uids(input: impl BufRead) -> io::Result<Result<Vec<u64>, usize>> {
     Ok(Ok(uids))
 }
 
+/// Whether the byte may be the next of a right line.
+fn goes_on(line: &[u8], byte: u8) -> bool {
+    match BEGINNING.get(line.len()) {
+        Some(digit) => byte == *digit,
+        None => line.len() < LINE && DIGITS.contains(&byte),
+    }
+}
+
 fn uid(line: &[u8]) -> Option<u64> {
-    if line.len() != LEVELS {
+    if line.len() != LINE {
         return None;
     }
     line.iter().try_fold(0, |uid, digit| {
@@ -74,8 +86,13 @@ impl Verdict {
 
     /// So too, over a list with places for so many.
     pub fn within(places: usize, uids: &[u64]) -> Verdict {
+        Verdict::by(FOURTEEN, places, uids)
+    }
+
+    /// So too, by a walk with these limits.
+    pub fn by(limits: Limits, places: usize, uids: &[u64]) -> Verdict {
         let mut verdict = Verdict { ending: Ending::Complete, rounds: 0, list: Vec::new() };
-        if let Err(ending) = verdict.round(places, uids, 0) {
+        if let Err(ending) = verdict.round(limits, places, uids, 0) {
             verdict.ending = ending;
         }
         verdict
@@ -83,8 +100,14 @@ impl Verdict {
 
     /// A round among the UIDs that have its mask, then those that its clashes
     /// ask for. The mask itself is of no matter any more.
-    fn round(&mut self, places: usize, uids: &[u64], level: usize) -> Result<(), Ending> {
-        if self.rounds == ROUNDS {
+    fn round(
+        &mut self,
+        limits: Limits,
+        places: usize,
+        uids: &[u64],
+        level: usize,
+    ) -> Result<(), Ending> {
+        if self.rounds == limits.rounds {
             return Err(Ending::Overrun);
         }
         self.rounds += 1;
@@ -94,13 +117,17 @@ impl Verdict {
                 uids.iter().copied().filter(|uid| uid >> (4 * level) & 15 == slot).collect();
             match in_slot[..] {
                 [] => {}
-                [_] if self.list.len() == places => return Err(Ending::Full),
-                [one] => self.list.push(one),
-                _ if level == LEVELS - 1 => return Err(Ending::Twins),
+                [one] if limits.first_byte.is_none() || begins_with_e0(one) => {
+                    if self.list.len() == places {
+                        return Err(Ending::Full);
+                    }
+                    self.list.push(one);
+                }
+                _ if level == limits.levels - 1 => return Err(Ending::Twins),
                 _ => clashes.push(in_slot),
             }
         }
-        clashes.iter().try_for_each(|answering| self.round(places, answering, level + 1))
+        clashes.iter().try_for_each(|answering| self.round(limits, places, answering, level + 1))
     }
 
     fn text(&self) -> String {

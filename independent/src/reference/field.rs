@@ -26,15 +26,17 @@ pub fn card(uid: u64) -> Card {
 /// What a walk is told of the replies in a slot.
 pub type Air = fn(&[Vec<u8>]) -> Heard;
 
-/// Plays the walk to its end.
-pub fn play(walk: &mut Walk, cards: &mut [Card], list: &mut [u64], air: Air) {
+/// Plays the walk to its end. Gives the deepest level that it was at after a slot.
+pub fn play(walk: &mut Walk, cards: &mut [Card], list: &mut [u64], air: Air) -> usize {
+    let mut deepest = 0;
     loop {
         match walk.ask(ROOM).expect("room enough") {
-            Sent::Nothing => return,
+            Sent::Nothing => return deepest,
             sent => {
                 let replies = cards.iter_mut().filter_map(|card| reply(card, &sent));
                 let heard = air(&replies.collect::<Vec<Vec<u8>>>());
                 walk.hear(&heard, list).expect("a running walk and a long list");
+                deepest = deepest.max(walk.mask.len());
             }
         }
     }

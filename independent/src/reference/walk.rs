@@ -8,12 +8,31 @@ use std::collections::BTreeSet;
 use super::check::sealed;
 use super::Refusal;
 
-pub const LEVELS: usize = 16;
+pub const LEVELS: usize = 14;
 pub const LAST_SLOT: u8 = 15;
 pub const PLACES: usize = 64;
-pub const ROUNDS: u16 = 481;
+pub const ROUNDS: u16 = 417;
+/// What every UID begins with, by ISO/IEC 15693-3, clause 4.1.
+pub const FIRST_BYTE: u8 = 0xE0;
 /// The room that is asked for every request.
 pub const REQUEST_ROOM: usize = 14;
+/// The longest request that is made in it.
+pub const LONGEST_REQUEST: usize = 13;
+
+/// How deep a walk goes, how long, and which UIDs it lists.
+#[derive(Clone, Copy, Debug, PartialEq, Eq)]
+pub struct Limits {
+    pub levels: usize,
+    pub rounds: u16,
+    /// What the UID of a clean reply begins with; none: with anything.
+    pub first_byte: Option<u8>,
+}
+
+/// The walk of the change request W6.
+pub const FOURTEEN: Limits =
+    Limits { levels: LEVELS, rounds: ROUNDS, first_byte: Some(FIRST_BYTE) };
+/// The walk before it. No board has it; what W6 says of it is held against it.
+pub const SIXTEEN: Limits = Limits { levels: 16, rounds: 481, first_byte: None };
 
 #[derive(Clone, Copy, Debug, PartialEq, Eq)]
 pub enum Ending {
@@ -48,6 +67,7 @@ pub enum Sent {
 
 #[derive(Clone, Debug)]
 pub struct Walk {
+    pub limits: Limits,
     /// Up to 255 an AFI, above that none.
     pub family: u16,
     /// As many digits as the level.
@@ -62,11 +82,16 @@ pub struct Walk {
 
 impl Walk {
     pub fn start(family: u16) -> Walk {
+        Walk::start_within(FOURTEEN, family)
+    }
+
+    pub fn start_within(limits: Limits, family: u16) -> Walk {
         Walk {
+            limits,
             family,
             mask: Vec::new(),
             slot: 0,
-            waiting: vec![BTreeSet::new(); LEVELS],
+            waiting: vec![BTreeSet::new(); limits.levels],
             rounds: 1,
             listed: 0,
             ending: None,
@@ -96,7 +121,7 @@ impl Walk {
     /// no place for it.
     pub fn hear_slot(&mut self, heard: &Heard, takes: impl FnOnce(u64) -> bool) {
         match self.meaning(heard) {
-            Meaning::Clash(_) if self.mask.len() == LEVELS - 1 => {
+            Meaning::Clash(_) if self.mask.len() == self.limits.levels - 1 => {
                 self.ending = Some(Ending::Twins);
                 return;
             }
@@ -147,6 +172,9 @@ impl Walk {
         if digits[self.mask.len()] != self.slot {
             return Meaning::Clash("other slot");
         }
+        if self.limits.first_byte.is_some_and(|first| bytes[9] != first) {
+            return Meaning::Clash("other first byte");
+        }
         Meaning::Clean(bytes[2..10].iter().rev().fold(0, |uid, &byte| 256 * uid + u64::from(byte)))
     }
 
@@ -158,7 +186,7 @@ impl Walk {
         }
         match self.waiting.iter().rposition(|slots| !slots.is_empty()) {
             None => self.ending = Some(Ending::Complete),
-            Some(_) if self.rounds == ROUNDS => self.ending = Some(Ending::Overrun),
+            Some(_) if self.rounds == self.limits.rounds => self.ending = Some(Ending::Overrun),
             Some(level) => {
                 self.mask.truncate(level);
                 self.mask.extend(self.waiting[level].pop_first());

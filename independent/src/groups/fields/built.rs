@@ -6,7 +6,7 @@ use crate::crowds;
 use crate::notation::show;
 use crate::random::Random;
 use crate::reference::walk::record::RECORD;
-use crate::reference::walk::{Heard, PLACES, ROUNDS};
+use crate::reference::walk::{Heard, LONGEST_REQUEST, PLACES, REQUEST_ROOM, ROUNDS};
 
 pub const READY: u8 = 0;
 pub const QUIET: u8 = 1;
@@ -29,7 +29,6 @@ impl BuiltCard {
     pub fn new(random: &mut Random, uid: u64, mode: u8, afi: u8) -> BuiltCard {
         let (blocks, size) = (1 + random.below(4), 1 + random.below(4));
         let mut record = random.bytes(40);
-        record[..8].copy_from_slice(&uid.to_le_bytes());
         record[8..12].copy_from_slice(&(blocks as u32).to_le_bytes());
         record[12..16].copy_from_slice(&(size as u32).to_le_bytes());
         record[16] = afi;
@@ -41,7 +40,15 @@ impl BuiltCard {
         record[25] = random.pick(&[0, 0, 1, 0x02, 0x10, 0x11, 0x12]);
         record[32..].fill(0);
         let locks = (0..blocks).map(|_| random.byte() % 2).collect();
-        BuiltCard { uid, mode, afi, record, memory: random.bytes(blocks * size), locks }
+        let memory = random.bytes(blocks * size);
+        let mut card = BuiltCard { uid, mode, afi, record, memory, locks };
+        card.set_uid(uid);
+        card
+    }
+
+    pub fn set_uid(&mut self, uid: u64) {
+        self.uid = uid;
+        self.record[..8].copy_from_slice(&uid.to_le_bytes());
     }
 
     pub fn dsfid(&self) -> u8 {
@@ -69,7 +76,7 @@ impl BuiltCard {
     }
 }
 
-/// As a C compiler places it.
+/// As a C compiler places a list; a record needs no more.
 #[derive(Clone)]
 #[repr(align(8))]
 pub struct Aligned<const LENGTH: usize>(pub [u8; LENGTH]);
@@ -87,7 +94,7 @@ impl Built {
         let mut record = Aligned([0xA5; RECORD]);
         walk::start(Lent::of(&mut record.0), family);
         let mut list = Aligned([0; 8 * PLACES]);
-        for (place, noise) in list.0.chunks_mut(8).zip(crowds::random_ones(random, PLACES)) {
+        for (place, noise) in list.0.chunks_mut(8).zip(crowds::noise(random, PLACES)) {
             place.copy_from_slice(&noise.to_le_bytes());
         }
         Built { family, cards, record, list }
@@ -96,12 +103,12 @@ impl Built {
     /// Plays the walk to its end.
     pub fn play(&mut self, air: Air) -> Result<(), String> {
         for _ in 0..=16 * ROUNDS {
-            let mut room = [0; 14];
+            let mut room = [0; REQUEST_ROOM];
             let told = walk::ask(Lent::of(&mut self.record.0), Lent::of(&mut room));
             let request = match told {
                 0 => return Ok(()),
                 1 => None,
-                5..=14 => Some(told as usize),
+                5.. if told <= LONGEST_REQUEST as i64 => Some(told as usize),
                 _ => return Err(format!("the walk, asked, said {told}")),
             };
             let mut replies = Vec::new();

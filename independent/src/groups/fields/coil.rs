@@ -5,10 +5,11 @@ use std::collections::BTreeSet;
 
 use super::air::Air;
 use super::built::{Built, BuiltCard, NO_FAMILY, READY};
+use super::edges::edges;
 use super::expected::{self, COMPLETE, FULL, TWINS};
-use super::{any, judge, up_to_four, FIELDS};
+use super::{any, judge, of_ready, up_to_four, FIELDS};
 use crate::calls::Calls;
-use crate::crowds::with_digit;
+use crate::crowds::{with_digit, with_first_byte};
 use crate::groups::counts::Counts;
 use crate::random::Random;
 use crate::reference::walk::PLACES;
@@ -44,8 +45,13 @@ pub fn run(calls: &mut Calls, random: &mut Random) {
         }
         judge(calls, &mut counts, Air::Coil, Built::new(random, cards, NO_FAMILY));
     }
+    let edges = edges(random);
+    for (uids, _) in &edges {
+        let field = of_ready(random, uids);
+        judge(calls, &mut counts, Air::Coil, field);
+    }
     counts.end(&mut calls.tally, "kinds of fields on the coil, where alike answers count as one");
-    calls.tally.must_have_compared((FIELDS + SMALL) as u64);
+    calls.tally.must_have_compared((FIELDS + SMALL + edges.len()) as u64);
 }
 
 /// DSFIDs for the cards: one for all, one for each UID, two, or any.
@@ -65,12 +71,13 @@ fn deal(random: &mut Random, cards: &mut [BuiltCard]) {
     }
 }
 
-/// Six UIDs, of which some part only at the last digit, each with three DSFIDs.
+/// Six UIDs, of which some part only at the last digit that is asked for, and one
+/// only at the first byte, each with three DSFIDs.
 fn crowded() -> Vec<(u64, u8)> {
     let one = 0xE004_0100_0000_0011;
-    let [low, middle, high] = [0, 7, 14].map(|place| with_digit(one, place, 0xA));
-    let [top, other_top] = [0xA, 0xB].map(|digit| with_digit(one, 15, digit));
-    let uids = [one, low, middle, high, top, other_top];
+    let [low, high] = [0, 12].map(|place| with_digit(one, place, 0xA));
+    let [top, other_top] = [0xA, 0xB].map(|digit| with_digit(one, 13, digit));
+    let uids = [one, low, high, top, other_top, with_first_byte(one, 0xD0)];
     uids.into_iter().flat_map(|uid| DSFIDS.map(|dsfid| (uid, dsfid))).collect()
 }
 

@@ -4,7 +4,7 @@ use crate::crowds::{self, shuffle};
 use crate::groups::walks::records;
 use crate::random::Random;
 use crate::reference::shared::{List, FREE, MOST};
-use crate::reference::walk::record::{read, RECORD};
+use crate::reference::walk::record::{at, read, RECORD};
 use crate::reference::walk::{Walk, PLACES};
 
 /// As both sides are lent it.
@@ -39,7 +39,7 @@ impl Arm {
         let owned = if random.once_in(2) { [one, other] } else { [other, one] };
         let records = owned.map(|count| {
             let mut record = records::accepted(random);
-            (record[46], record[47]) = (count as u8, 0);
+            (record[at::COUNT], record[at::ENDING]) = (count as u8, 0);
             record
         });
         Arm::of(random, records, owned)
@@ -47,7 +47,7 @@ impl Arm {
 
     fn of(random: &mut Random, records: [Vec<u8>; 2], owned: [usize; 2]) -> Arm {
         let rows = PLACES + random.pick(&[0, 0, 6, 6, 1, 192]);
-        let rows = crowds::random_ones(random, rows);
+        let rows = crowds::noise(random, rows);
         let mut marks = marks(random, owned);
         // Past the 64 that count, any.
         let more = random.pick(&[0, 0, 6, 6, 1, 192]);

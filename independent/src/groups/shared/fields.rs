@@ -5,7 +5,8 @@ mod built;
 mod expected;
 
 use crate::calls::Calls;
-use crate::crowds::{shuffle, CROWDS};
+use crate::crowds::{any_uid, make_some_foreign, other_first_byte};
+use crate::crowds::{shuffle, with_first_byte, CROWDS};
 use crate::groups::fields::built::{BuiltCard, QUIET, READY, SELECTED};
 use crate::groups::fields::families;
 use crate::random::Random;
@@ -62,16 +63,23 @@ fn any(random: &mut Random) -> Field {
         (count, other) = random.pick(&EDGES);
     }
     let own = random.below(MOST.min(PLACES - other) + 1);
-    let answering = uids(random, count);
+    let mut answering = uids(random, count);
+    if random.once_in(5) {
+        let times = random.pick(&[2, 10, 40]);
+        make_some_foreign(random, &mut answering, times);
+    }
     let (family, afis) = families::any(random);
     let mut cards = Vec::new();
     for &uid in &answering {
         let mode = random.pick(&[READY, READY, READY, SELECTED]);
         cards.push(BuiltCard::new(random, uid, mode, afis[0]));
     }
-    // Some say nothing, as one whose UID another has.
+    // Some say nothing, as one whose UID another has, but for its first byte or
+    // not.
     for _ in 0..random.below(3) {
-        let uid = answering.first().copied().unwrap_or(random.number());
+        let uid = answering.first().copied().unwrap_or(any_uid(random));
+        let other = with_first_byte(uid, other_first_byte(random));
+        let uid = random.pick(&[uid, other]);
         cards.push(BuiltCard::new(random, uid, QUIET, afis[0]));
     }
     shuffle(random, &mut cards);
@@ -87,7 +95,7 @@ fn uids(random: &mut Random, count: usize) -> Vec<u64> {
     uids.sort();
     uids.dedup();
     while uids.len() < count {
-        uids.push(random.number());
+        uids.push(any_uid(random));
     }
     shuffle(random, &mut uids);
     let alike = random.pick(&[0, 0, 1, 1, 4]);

@@ -52,6 +52,13 @@ const FULL: [&str; 3] = [
     "full, 40 rows and none free",
 ];
 
+const CLASHED: [&str; 4] = [
+    "another first byte, its rack has 39 rows",
+    "another first byte, its rack has 40 rows",
+    "another first byte, no row is free",
+    "another first byte in slot 15, then overrun",
+];
+
 const ENDED: [&str; 7] = [
     "complete by silence",
     "complete by a clean UID",
@@ -78,7 +85,7 @@ impl Kinds {
         let mut counts = Counts::default();
         counts.expect_times(STARTED, LEAST_STARTS..=u64::MAX);
         counts.expect_times(SLOTS, LEAST_SLOTS..=u64::MAX);
-        for kind in STARTS.iter().chain(&TAKEN).chain(&FULL) {
+        for kind in STARTS.iter().chain(&TAKEN).chain(&FULL).chain(&CLASHED) {
             counts.expect(*kind);
         }
         for name in TRUE.iter().chain(&FALSE) {
@@ -146,6 +153,9 @@ impl Kinds {
             Meaning::Silence => "silence",
             Meaning::Clash(why) => {
                 self.0.row(&format!("clash, {why}"));
+                if why == "other first byte" {
+                    self.foreign(rack, before, after);
+                }
                 "a clash"
             }
             Meaning::Clean(uid) => {
@@ -198,6 +208,17 @@ impl Kinds {
             last_slot && ending == Some(Ending::Overrun),
         ];
         self.0.rows(TAKEN, kinds);
+    }
+
+    fn foreign(&mut self, rack: usize, before: &Arm, after: &Arm) {
+        let own = before.list().of(rack as u8).len();
+        let kinds = [
+            own + 1 == MOST,
+            own == MOST,
+            before.list().free() == 0,
+            after.walk(rack).ending == Some(Ending::Overrun),
+        ];
+        self.0.rows(CLASHED, kinds);
     }
 
     /// A walk from its start among cards.

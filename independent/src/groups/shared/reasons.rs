@@ -4,6 +4,7 @@ use super::arm::{self, Arm};
 use crate::groups::walks::refusals::{break_clause, CLAUSES, ENDINGS};
 use crate::random::Random;
 use crate::reference::shared::MOST;
+use crate::reference::walk::record::at;
 use crate::reference::walk::PLACES;
 
 /// What a call may be refused for, in the order in which it looks.
@@ -105,7 +106,7 @@ pub fn break_call(random: &mut Random, call: &mut Call, rack: usize, reason: Rea
     match reason {
         Reason::Rack => call.rack = of_cause(random, &RACKS, cause),
         Reason::Record => break_clause(random, cause, record),
-        Reason::Ended => record[47] = of_cause(random, &ENDINGS, cause),
+        Reason::Ended => record[at::ENDING] = of_cause(random, &ENDINGS, cause),
         Reason::List => break_list(random, cause, rows, marks),
         Reason::Beside => break_beside(random, cause, rack, record, marks),
     }
@@ -167,7 +168,7 @@ fn break_beside(
     };
     let owned = if rack == 0 { [own, other] } else { [other, own] };
     marks[..PLACES].copy_from_slice(&arm::marks(random, owned));
-    record[46] = count as u8;
+    record[at::COUNT] = count as u8;
 }
 
 fn wrong_mark(random: &mut Random) -> u8 {

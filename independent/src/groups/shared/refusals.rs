@@ -8,6 +8,7 @@ use crate::groups::walks::records::family;
 use crate::groups::walks::refusals::HEARINGS;
 use crate::groups::walks::replies::{fitting, reply};
 use crate::random::Random;
+use crate::reference::walk::record::at;
 use crate::reference::walk::Heard;
 use crate::reference::Refusal;
 
@@ -30,7 +31,7 @@ fn reasons(random: &mut Random, from: &[Reason]) -> Vec<Reason> {
 pub fn hearing(calls: &mut Calls, random: &mut Random, kinds: &mut Kinds, arm: &Arm, rack: usize) {
     let arm = if random.once_in(2) { Arm::accepted(random) } else { arm.clone() };
     let mut call = Call { rack: rack as u32, arm, causes: Vec::new() };
-    call.arm.records[rack][47] = 0;
+    call.arm.records[rack][at::ENDING] = 0;
     let way = random.pick(&HEARINGS);
     let heard = match way {
         "silence" => Heard::Silence,

@@ -4,6 +4,7 @@ use super::refusals::{CLAUSES, ENDINGS, HEARINGS, LISTS};
 use super::replies::{FALSE, TRUE};
 use crate::crowds::{CROWDS, MOST};
 use crate::groups::counts::Counts;
+use crate::reference::tails::all_begin_with_e0;
 use crate::reference::walk::{
     Ending, Heard, Meaning, Sent, Walk, LAST_SLOT, LEVELS, PLACES, ROUNDS,
 };
@@ -11,22 +12,30 @@ use crate::reference::Refusal;
 use crate::tally::Tally;
 
 /// Why bytes are a clash.
-pub const CLASHES: [&str; 6] =
-    ["told", "not 12 bytes", "wrong check", "wrong flags", "other mask", "other slot"];
+pub const CLASHES: [&str; 7] = [
+    "told",
+    "not 12 bytes",
+    "wrong check",
+    "wrong flags",
+    "other mask",
+    "other slot",
+    "other first byte",
+];
 
-const ENDED: [&str; 13] = [
+const ENDED: [&str; 14] = [
     "complete by silence",
     "complete by a clean UID",
     "overrun by silence",
     "overrun by a clash",
     "overrun by a clean UID",
     "twins by a clash",
+    "twins with 64 listed",
     "twins in slot 15",
-    "twins in round 481",
+    "twins in round 417",
     "twins with clashes that wait",
     "full by a clean UID",
     "full in slot 15",
-    "full in round 481",
+    "full in round 417",
     "full with clashes that wait",
 ];
 
@@ -42,6 +51,7 @@ const ASKED: [&str; 9] = [
     "request of family 00",
 ];
 
+const FOREIGN: &str = "field with other first bytes";
 const SIZES: [&str; 4] = ["no cards", "1 to 64 cards", "65 to 99 cards", "100 cards"];
 const SLOTS: &str = "slots heard";
 const OPENED: &str = "level opened";
@@ -84,6 +94,7 @@ impl Kinds {
         for size in SIZES {
             counts.expect(format!("field of {size}"));
         }
+        counts.expect(FOREIGN);
         counts.expect(SLOTS);
         counts.expect("opened at the own level");
         counts.expect("opened at a level before");
@@ -101,10 +112,13 @@ impl Kinds {
         Kinds(counts)
     }
 
-    /// A walk starts in a field of this kind with so many cards.
-    pub fn field(&mut self, name: &str, cards: usize) {
+    /// A walk starts in a field of this kind with these cards.
+    pub fn field(&mut self, name: &str, uids: &[u64]) {
         self.0.row(&format!("field, {name}"));
-        let size = match cards {
+        if !all_begin_with_e0(uids) {
+            self.0.row(FOREIGN);
+        }
+        let size = match uids.len() {
             0 => SIZES[0],
             1..=PLACES => SIZES[1],
             MOST => SIZES[3],
@@ -175,11 +189,14 @@ impl Kinds {
         if matches!(ending, Ending::Complete | Ending::Overrun) {
             return;
         }
+        if ending == Ending::Twins && walk.listed == PLACES {
+            self.0.row("ending twins with 64 listed");
+        }
         if walk.slot == LAST_SLOT {
             self.0.row(&format!("ending {word} in slot 15"));
         }
         if walk.rounds == ROUNDS {
-            self.0.row(&format!("ending {word} in round 481"));
+            self.0.row(&format!("ending {word} in round 417"));
         }
         if walk.waiting.iter().any(|slots| !slots.is_empty()) {
             self.0.row(&format!("ending {word} with clashes that wait"));

@@ -4,15 +4,16 @@ use super::kinds::Kinds;
 use super::records;
 use crate::calls::Calls;
 use crate::random::Random;
-use crate::reference::walk::{Heard, PLACES};
+use crate::reference::walk::record::at;
+use crate::reference::walk::{Heard, LEVELS, PLACES};
 
 /// The clauses of number 10.
 pub const CLAUSES: [&str; 8] = [
-    "level over 15",
+    "level over 13",
     "slot over 15",
     "count over 64",
     "rounds 0",
-    "rounds over 481",
+    "rounds over 417",
     "mask bits above its length",
     "mark at a deeper level",
     "mark at the last level",
@@ -34,7 +35,7 @@ pub const HEARINGS: [&str; 3] = ["silence", "clash", "bytes"];
 /// A running walk: the record at hand, or another.
 fn running(random: &mut Random, record: &[u8]) -> Vec<u8> {
     let mut record = if random.once_in(2) { records::accepted(random) } else { record.to_vec() };
-    record[47] = 0;
+    record[at::ENDING] = 0;
     record
 }
 
@@ -55,7 +56,7 @@ pub fn hearing(
             (10, clause)
         }
         1 => {
-            record[47] = random.pick(bytes);
+            record[at::ENDING] = random.pick(bytes);
             (6, ending)
         }
         2 => {
@@ -63,13 +64,13 @@ pub fn hearing(
             (5, short)
         }
         3 => {
-            record[47] = random.pick(bytes);
+            record[at::ENDING] = random.pick(bytes);
             shorten(random, short, &mut list);
             (6, "before 5")
         }
         _ => {
             break_clause(random, clause, &mut record);
-            record[47] = random.pick(bytes);
+            record[at::ENDING] = random.pick(bytes);
             shorten(random, short, &mut list);
             (10, "before 6 and 5")
         }
@@ -91,7 +92,7 @@ pub fn asking(calls: &mut Calls, random: &mut Random, kinds: &mut Kinds, record:
     let clause = random.pick(&CLAUSES);
     break_clause(random, clause, &mut record);
     // An ended walk is looked at too.
-    record[47] = random.pick(&[0, 0, 1, 2, 3, 4, 255]);
+    record[at::ENDING] = random.pick(&[0, 0, 1, 2, 3, 4, 255]);
     let short = random.once_in(2);
     let room = if short { random.below(14) } else { 14 + random.below(30) };
     let cause = if short { "before 8" } else { clause };
@@ -114,35 +115,35 @@ pub fn break_clause(random: &mut Random, clause: &str, record: &mut [u8]) {
     let high = random.byte();
     let far = 1u16 << (9 + random.below(7));
     match clause {
-        "level over 15" => record[44] = random.pick(&[16, 17, 32, 255, 16 | high]),
-        "slot over 15" => record[45] = random.pick(&[16, 17, 32, 255, 16 | high]),
-        "count over 64" => record[46] = random.pick(&[65, 66, 128, 255, 128 | high]),
-        "rounds 0" => record[40..42].fill(0),
-        "rounds over 481" => {
-            let rounds = random.pick(&[482, 483, 512, 0xFFFF, far, far + 1]);
-            record[40..42].copy_from_slice(&u16::to_le_bytes(rounds));
+        "level over 13" => record[at::LEVEL] = random.pick(&[14, 15, 16, 17, 255, 16 | high]),
+        "slot over 15" => record[at::SLOT] = random.pick(&[16, 17, 32, 255, 16 | high]),
+        "count over 64" => record[at::COUNT] = random.pick(&[65, 66, 128, 255, 128 | high]),
+        "rounds 0" => record[at::ROUNDS].fill(0),
+        "rounds over 417" => {
+            let rounds = random.pick(&[418, 419, 480, 481, 512, 0xFFFF, far, far + 1]);
+            record[at::ROUNDS].copy_from_slice(&u16::to_le_bytes(rounds));
         }
         "mask bits above its length" => {
-            let length = 4 * usize::from(record[44]);
+            let length = 4 * usize::from(record[at::LEVEL]);
             let bit = random.pick(&[length, 63, length + usize::from(high) % (64 - length)]);
-            record[32 + bit / 8] |= 1 << (bit % 8);
+            record[at::MASK][bit / 8] |= 1 << (bit % 8);
         }
         "mark at a deeper level" => {
-            let level = usize::from(record[44]).min(random.below(14));
-            record[44] = level as u8;
-            record[32..40].fill(0);
-            record[2 + 2 * level..32].fill(0);
-            let deeper = level + 1 + random.below(14 - level);
+            let level = usize::from(record[at::LEVEL]).min(random.below(LEVELS - 2));
+            record[at::LEVEL] = level as u8;
+            record[at::MASK].fill(0);
+            record[at::MARKS][2 + 2 * level..].fill(0);
+            let deeper = level + 1 + random.below(LEVELS - 2 - level);
             mark(random, record, deeper);
         }
         "mark at the last level" => {
-            record[44] = 15;
-            mark(random, record, 15);
+            record[at::LEVEL] = LEVELS as u8 - 1;
+            mark(random, record, LEVELS - 1);
         }
         _ => unreachable!(),
     }
 }
 
 fn mark(random: &mut Random, record: &mut [u8], level: usize) {
-    record[2 * level + random.below(2)] |= 1 << random.below(8);
+    record[at::MARKS][2 * level + random.below(2)] |= 1 << random.below(8);
 }

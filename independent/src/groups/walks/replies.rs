@@ -1,6 +1,6 @@
 //! What is heard in a slot: the field's own replies, and false ones.
 
-use crate::crowds::{digit, with_digit};
+use crate::crowds::{any_uid, digit, other_first_byte, with_digit, with_first_byte};
 use crate::random::Random;
 use crate::reference::check::sealed;
 use crate::reference::walk::{Heard, Walk, LEVELS};
@@ -15,7 +15,7 @@ pub enum Manner {
 
 pub const TRUE: [&str; 3] = ["true silence", "true reply", "true clash"];
 
-pub const FALSE: [&str; 16] = [
+pub const FALSE: [&str; 17] = [
     "false silence",
     "false clash",
     "invented UID",
@@ -30,6 +30,7 @@ pub const FALSE: [&str; 16] = [
     "UID of another slot",
     "UID of another mask",
     "slot digit below the mask",
+    "UID with another first byte",
     "12 bytes of garbage",
     "long garbage",
 ];
@@ -105,6 +106,10 @@ pub fn falsely(random: &mut Random, walk: &Walk) -> (&'static str, Heard) {
                 .fold(uid, |uid, place| with_digit(uid, place + 1, walk.mask[place].into()));
             reply(random, with_digit(other, 0, walk.slot.into()))
         }
+        "UID with another first byte" => {
+            let first = other_first_byte(random);
+            reply(random, with_first_byte(uid, first))
+        }
         "long garbage" => {
             let length = random.pick(&[14, 64, 65, 267, 268, 269, 300]);
             sealed(&random.bytes(length - 2))
@@ -120,10 +125,10 @@ pub fn fits(walk: &Walk, uid: u64) -> bool {
     digits.all(|(place, &asked)| digit(uid, place) == u64::from(asked))
 }
 
-/// A UID that fits mask and slot.
+/// A UID that fits mask and slot and begins with E0.
 pub fn fitting(random: &mut Random, walk: &Walk) -> u64 {
     let digits = walk.mask.iter().chain([&walk.slot]).enumerate();
-    digits.fold(random.number(), |uid, (place, &digit)| with_digit(uid, place, digit.into()))
+    digits.fold(any_uid(random), |uid, (place, &digit)| with_digit(uid, place, digit.into()))
 }
 
 pub fn reply(random: &mut Random, uid: u64) -> Vec<u8> {

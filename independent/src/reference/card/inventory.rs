@@ -33,7 +33,7 @@ pub fn take_inventory(card: &mut Card, family: bool, one: bool, command: u8, bod
         card.sequence = Some(Sequence { slot: 0, mask });
         return in_slot(card);
     }
-    if uid_bits(card).starts_with(&mask) {
+    if begins_with(card, mask.into_iter()) {
         Answer("one slot, mask fits", presence(card))
     } else {
         Silence("one slot, mask does not fit")
@@ -55,16 +55,20 @@ fn calls(asked: u8, own: u8) -> bool {
 /// What the card says in the running sequence's slot.
 pub fn in_slot(card: &Card) -> Said {
     let Some(Sequence { slot, mask }) = &card.sequence else { unreachable!() };
-    let fitting: Vec<bool> = mask.iter().copied().chain(bits_of(*slot).take(4)).collect();
-    match uid_bits(card) {
-        uid if uid.starts_with(&fitting) => Answer("slot fits", presence(card)),
-        uid if uid.starts_with(mask) => Silence("other slot"),
-        _ => Silence("sixteen slots, mask does not fit"),
+    let mask = mask.iter().copied();
+    if begins_with(card, mask.clone().chain(bits_of(*slot).take(4))) {
+        Answer("slot fits", presence(card))
+    } else if begins_with(card, mask) {
+        Silence("other slot")
+    } else {
+        Silence("sixteen slots, mask does not fit")
     }
 }
 
-fn uid_bits(card: &Card) -> Vec<bool> {
-    card.uid.iter().flat_map(|&byte| bits_of(byte)).collect()
+/// Whether the UID's lowest bits are these.
+fn begins_with(card: &Card, mut bits: impl Iterator<Item = bool>) -> bool {
+    let mut uid = card.uid.iter().flat_map(|&byte| bits_of(byte));
+    bits.all(|bit| uid.next() == Some(bit))
 }
 
 fn presence(card: &Card) -> Vec<u8> {

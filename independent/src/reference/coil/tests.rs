@@ -3,7 +3,7 @@
 use std::collections::BTreeSet;
 
 use super::*;
-use crate::crowds::CROWDS;
+use crate::crowds::{make_some_foreign, CROWDS};
 use crate::random::Random;
 use crate::reference::bench::Verdict;
 use crate::reference::card::Card;
@@ -66,10 +66,12 @@ fn fields_on_the_coil() {
     for (_, crowd) in CROWDS {
         for count in (0..9).chain([33, 64, 65, 100]) {
             for dsfids in [1, 2] {
-                let pairs: Vec<(u64, u8)> = crowd(&mut random, count)
-                    .into_iter()
-                    .map(|uid| (uid, random.below(dsfids) as u8))
-                    .collect();
+                let mut uids = crowd(&mut random, count);
+                if random.once_in(4) {
+                    make_some_foreign(&mut random, &mut uids, 10);
+                }
+                let pairs: Vec<(u64, u8)> =
+                    uids.into_iter().map(|uid| (uid, random.below(dsfids) as u8)).collect();
                 let cards = pairs.iter().map(|&(uid, dsfid)| Card { dsfid, ..card(uid) }).collect();
                 let different: BTreeSet<(u64, u8)> = pairs.into_iter().collect();
                 let uids: Vec<u64> = different.iter().map(|(uid, _)| *uid).collect();
@@ -92,6 +94,6 @@ fn alike_cards_on_the_coil() {
     assert_eq!(field([0xD5, 0xD5]), Verdict { ending: Ending::Complete, rounds: 1, list });
     assert_eq!(
         field([0xD5, 0xD6]),
-        Verdict { ending: Ending::Twins, rounds: 16, list: Vec::new() }
+        Verdict { ending: Ending::Twins, rounds: 14, list: Vec::new() }
     );
 }

@@ -2,13 +2,13 @@
 //! of it in so many words.
 
 use super::{hear, start, List, FREE, MOST};
-use crate::crowds::{shuffle, CROWDS};
+use crate::crowds::{make_some_foreign, shuffle, CROWDS};
 use crate::random::Random;
 use crate::reference::bench::Verdict;
 use crate::reference::check::sealed;
 use crate::reference::field::{card, reply, together};
-use crate::reference::tails::{all_differ, rounds};
-use crate::reference::walk::record::{ask, read, RECORD};
+use crate::reference::tails::{can_be_told, rounds};
+use crate::reference::walk::record::{ask, at, read, RECORD};
 use crate::reference::walk::{Ending, Heard, Sent, PLACES, REQUEST_ROOM};
 
 /// What a rack is lent: its record, the rows and the marks.
@@ -28,7 +28,7 @@ impl Rack {
         let rows = (0..PLACES).map(|_| random.number()).collect();
         let mut record = vec![0; RECORD];
         start(0, 256, &mut record, &mut [FREE; PLACES]).unwrap();
-        record[46] = own as u8;
+        record[at::COUNT] = own as u8;
         Rack { record, rows, marks }
     }
 
@@ -51,6 +51,9 @@ impl Rack {
             .collect()
     }
 }
+
+/// A UID of slot 0 that begins with E0.
+const OWN: u64 = 0xE004_0100_0000_0010;
 
 fn clean(uid: u64) -> Heard {
     Heard::Bytes(sealed(&[&[0x00, 0xD5], &uid.to_le_bytes()[..]].concat()))
@@ -85,7 +88,10 @@ fn fields_of_a_rack() {
     for (_, crowd) in CROWDS {
         for count in [0, 1, 2, 7, 24, 25, 40, 41, 64] {
             let other = random.pick(&[0, 24, 39, 40]);
-            let uids = crowd(&mut random, count);
+            let mut uids = crowd(&mut random, count);
+            if random.once_in(3) {
+                make_some_foreign(&mut random, &mut uids, 20);
+            }
             let verdict = played(&mut random, other, &uids);
             assert_eq!(verdict, Verdict::within(MOST.min(PLACES - other), &uids));
             follows_the_request(&uids, &verdict);
@@ -94,17 +100,17 @@ fn fields_of_a_rack() {
 }
 
 fn follows_the_request(uids: &[u64], verdict: &Verdict) {
-    let (many, differ) = (uids.len(), all_differ(uids));
+    let (many, told) = (uids.len(), can_be_told(uids));
     match verdict.ending {
         Ending::Complete => {
-            assert!(many <= 40 && differ);
+            assert!(many <= 40 && told);
             assert_eq!(usize::from(verdict.rounds), rounds(uids));
             let [mut listed, mut all] = [&verdict.list[..], uids].map(|row| row.to_vec());
             listed.sort();
             all.sort();
             assert_eq!(listed, all);
         }
-        Ending::Twins => assert!(!differ),
+        Ending::Twins => assert!(!told),
         Ending::Full => assert!(many > 24),
         Ending::Overrun => panic!("no reply was false"),
     }
@@ -117,7 +123,7 @@ fn only_the_number_of_free_rows_matters() {
     let mut random = Random::new(6);
     for own in [0, 1, 24, 39, 40] {
         for other in [0, 1, 23, 24, 40] {
-            for heard in [Heard::Silence, Heard::Clash, clean(0x10), clean(0x11)] {
+            for heard in [Heard::Silence, Heard::Clash, clean(OWN), clean(OWN + 1), clean(0x10)] {
                 let (own, other) = (own, other.min(PLACES - own));
                 let mut racks = [(); 2].map(|()| Rack::any(&mut random, own, other));
                 let before = racks.clone();
@@ -136,14 +142,14 @@ fn the_lowest_free_row() {
     let mut random = Random::new(7);
     let mut rack = Rack::any(&mut random, 0, 0);
     rack.marks[..6].copy_from_slice(&[1, FREE, 1, 0, FREE, 1]);
-    rack.record[46] = 1;
+    rack.record[at::COUNT] = 1;
     let mut expected = rack.clone();
     for (slot, row) in [1, 4, 6, 7].into_iter().enumerate() {
-        let uid = 0xE004_0100_0000_0010 + slot as u64;
+        let uid = OWN + slot as u64;
         assert_eq!(rack.hear(0, &clean(uid)), 0);
         (expected.marks[row], expected.rows[row]) = (0, uid);
-        expected.record[45] += 1;
-        expected.record[46] += 1;
+        expected.record[at::SLOT] += 1;
+        expected.record[at::COUNT] += 1;
         assert_eq!(rack, expected);
     }
 }
@@ -156,9 +162,30 @@ fn full_at_40_or_with_no_free_row() {
     {
         let mut rack = Rack::any(&mut random, own, other);
         let (rows, marks) = (rack.rows.clone(), rack.marks.clone());
-        assert_eq!(rack.hear(0, &clean(0x10)), 0);
-        assert_eq!(rack.record[47], ending, "{own} {other}");
+        assert_eq!(rack.hear(0, &clean(OWN)), 0);
+        assert_eq!(rack.record[at::ENDING], ending, "{own} {other}");
         assert_eq!((rack.rows, rack.marks) == (rows, marks), ending == 3);
+    }
+}
+
+/// W6: over a shared list too another first byte is a clash, and never full.
+#[test]
+fn another_first_byte_takes_no_row() {
+    let mut random = Random::new(10);
+    for (own, other) in [(0, 0), (39, 24), (39, 25), (40, 0), (40, 24)] {
+        for level in [0, 12, 13] {
+            let mut rack = Rack::any(&mut random, own, other);
+            rack.record[at::LEVEL] = level;
+            let mut expected = rack.clone();
+            assert_eq!(rack.hear(0, &clean(0)), 0);
+            if level == 13 {
+                expected.record[at::ENDING] = 2;
+            } else {
+                expected.record[at::MARKS][2 * usize::from(level)] = 0x01;
+                expected.record[at::SLOT] = 1;
+            }
+            assert_eq!(rack, expected);
+        }
     }
 }
 
@@ -167,33 +194,33 @@ fn full_at_40_or_with_no_free_row() {
 fn order_of_refusals() {
     let mut random = Random::new(9);
     let mut rack = Rack::any(&mut random, 41, 0);
-    rack.record[45..].copy_from_slice(&[16, 1, 1]);
+    rack.record[at::SLOT..].copy_from_slice(&[16, 1, 1]);
     rack.rows.truncate(63);
     let mark = std::mem::replace(&mut rack.marks[63], 2);
     let refused = |rack: &Rack, number: u32, said: i64| {
         let mut after = rack.clone();
-        assert_eq!(after.hear(number, &clean(0x10)), said);
+        assert_eq!(after.hear(number, &clean(OWN)), said);
         assert_eq!(after == *rack, said != 0);
     };
     for number in [2, 255, 256, 257, u32::MAX] {
         refused(&rack, number, -13);
     }
     refused(&rack, 0, -10);
-    rack.record[45] = 0;
+    rack.record[at::SLOT] = 0;
     refused(&rack, 0, -6);
-    rack.record[47] = 0;
+    rack.record[at::ENDING] = 0;
     refused(&rack, 0, -5);
     rack.rows.push(0);
     refused(&rack, 0, -5);
     rack.marks[63] = mark;
     refused(&rack, 0, -10);
-    rack.record[46] = 41;
+    rack.record[at::COUNT] = 41;
     refused(&rack, 0, -10);
     refused(&rack, 1, -10);
     let row = rack.of(0)[0].0;
     rack.marks[row] = FREE;
     refused(&rack, 0, -10);
-    rack.record[46] = 40;
+    rack.record[at::COUNT] = 40;
     refused(&rack, 0, 0);
     // Past 64 rows and marks nothing is looked at.
     rack.rows.push(0);

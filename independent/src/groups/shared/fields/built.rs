@@ -11,8 +11,9 @@ use crate::groups::walks::records;
 use crate::random::Random;
 use crate::reference::field::together;
 use crate::reference::shared::{FREE, MOST};
-use crate::reference::walk::record::RECORD;
-use crate::reference::walk::{Heard, PLACES, REQUEST_ROOM, ROUNDS};
+use crate::reference::tails::begins_with_e0;
+use crate::reference::walk::record::{at, RECORD};
+use crate::reference::walk::{Heard, LONGEST_REQUEST, PLACES, REQUEST_ROOM, ROUNDS};
 pub use meanwhile::Meanwhile;
 
 /// What came up during a walk.
@@ -48,11 +49,11 @@ impl BuiltArm {
         let records = owned.map(|count| {
             let mut record = Aligned([0; RECORD]);
             record.0.copy_from_slice(&records::accepted(random));
-            record.0[46] = count as u8;
+            record.0[at::COUNT] = count as u8;
             record
         });
         let mut rows = Aligned([0; 8 * PLACES]);
-        let mut uids = crowds::random_ones(random, PLACES);
+        let mut uids = crowds::noise(random, PLACES);
         uids.extend(&field.answering);
         for row in rows.0.chunks_mut(8) {
             row.copy_from_slice(&random.pick(&uids).to_le_bytes());
@@ -81,12 +82,12 @@ impl BuiltArm {
     /// Count and ending of a rack's walk.
     pub fn end(&self, rack: usize) -> (usize, u8) {
         let record = &self.records[rack].0;
-        (record[46].into(), record[47])
+        (record[at::COUNT].into(), record[at::ENDING])
     }
 
     pub fn rounds(&self, rack: usize) -> usize {
-        let record = &self.records[rack].0;
-        u16::from_le_bytes([record[40], record[41]]).into()
+        let bytes = &self.records[rack].0[at::ROUNDS];
+        u16::from_le_bytes(bytes.try_into().unwrap()).into()
     }
 
     /// Frees the rack's rows and changes no other mark.
@@ -100,7 +101,8 @@ impl BuiltArm {
             .ok_or(format!("rack {rack}, started, said {said}, marks {:?}", self.marks))
     }
 
-    /// Changes no row and no mark, or those of the lowest free row alone.
+    /// Changes no row and no mark, or those of the lowest free row alone, and that
+    /// only at a UID that begins with E0.
     fn hear(&mut self, rack: usize, heard: Heard) -> Result<(), String> {
         let before = self.clone();
         let record = Lent::of(&mut self.records[rack].0);
@@ -120,7 +122,9 @@ impl BuiltArm {
             [] => true,
             [row] => {
                 before.marks.iter().position(|&mark| mark == FREE) == Some(row)
-                    && uid.is_some_and(|uid| self.row(row) == (rack as u8, uid))
+                    && uid.is_some_and(|uid| {
+                        begins_with_e0(uid) && self.row(row) == (rack as u8, uid)
+                    })
             }
             _ => false,
         };
@@ -141,7 +145,7 @@ impl BuiltArm {
             let request = match told {
                 0 => return Ok(seen),
                 1 => None,
-                5..=14 => Some(told as usize),
+                5.. if told <= LONGEST_REQUEST as i64 => Some(told as usize),
                 _ => return Err(format!("the walk, asked, said {told}")),
             };
             let mut replies = Vec::new();

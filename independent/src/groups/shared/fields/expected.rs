@@ -4,10 +4,12 @@
 use super::built::{BuiltArm, Seen};
 use super::Field;
 use crate::groups::counts::Counts;
+use crate::groups::fields::built::QUIET;
 use crate::groups::fields::expected::{COMPLETE, FULL, OVERRUN, TWINS};
 use crate::reference::bench::Verdict;
 use crate::reference::shared::MOST;
-use crate::reference::tails::{all_differ, rounds};
+use crate::reference::tails::{all_begin_with_e0, all_differ, begins_with_e0};
+use crate::reference::tails::{can_be_told, rounds};
 use crate::reference::walk::{Ending, PLACES};
 
 /// What the other rack always leaves.
@@ -25,7 +27,7 @@ const BANDS: [&str; 7] = [
 ];
 const OFTEN: u64 = 100;
 
-const KINDS: [&str; 24] = [
+const KINDS: [&str; 27] = [
     "24 answer",
     "25 answer",
     "40 answer",
@@ -50,6 +52,9 @@ const KINDS: [&str; 24] = [
     "places grew fewer during the walk",
     "complete, more answer than had places at times",
     "complete, a UID in rows of both racks",
+    "twins, another first byte answers, none alike",
+    "full, another first byte answers",
+    "complete, another first byte on a Quiet card",
 ];
 
 pub fn counts() -> Counts {
@@ -66,7 +71,7 @@ pub fn counts() -> Counts {
 /// What is wrong after the walk, if anything is.
 pub fn fault(field: &Field, arm: &BuiltArm, seen: &Seen, counts: &mut Counts) -> Option<String> {
     let Field { rack, answering, .. } = field;
-    let (many, differ) = (answering.len(), all_differ(answering));
+    let (many, told) = (answering.len(), can_be_told(answering));
     let (count, ending) = arm.end(*rack);
     let [complete, twins, full] = [COMPLETE, TWINS, FULL].map(|each| ending == each);
     let met = arm.rounds(*rack);
@@ -75,24 +80,24 @@ pub fn fault(field: &Field, arm: &BuiltArm, seen: &Seen, counts: &mut Counts) ->
     count_kinds(counts, field, arm, seen);
 
     let times = |uid: &u64| all.iter().filter(|each| *each == uid).count();
-    let single = listed.iter().all(|uid| times(uid) == 1) && all_differ(&listed);
+    let single = listed.iter().all(|uid| times(uid) == 1) && can_be_told(&listed);
     let verdict = Verdict::within(seen.most, answering);
     let steady = seen.least == seen.most;
     let wrong = [
         (!complete && !twins && !full, "ending"),
         (complete && many > MOST, "complete above 40"),
-        (complete && !differ, "complete with two alike"),
+        (complete && !told, "complete with two alike, or another first byte"),
         (complete && listed != all, "list"),
         (complete && count != many, "count"),
         (complete && met != rounds(answering), "rounds"),
-        (many <= LEFT && differ && !complete, "ending up to 24, all different"),
-        (many <= LEFT && !differ && !twins, "ending up to 24, two alike"),
-        (twins && differ, "twins with none alike"),
+        (many <= LEFT && told && !complete, "ending up to 24, all different"),
+        (many <= LEFT && !told && !twins, "ending up to 24, two alike"),
+        (twins && told, "twins with none alike"),
         (full && many <= LEFT, "full up to 24"),
         // Finer than the request's bands: by the places that there were.
-        (many <= seen.least && differ && !complete, "ending with places for all"),
-        (many <= seen.least && !differ && !twins, "ending with places for all, two alike"),
-        (many > seen.most && differ && !full, "ending with too few places"),
+        (many <= seen.least && told && !complete, "ending with places for all"),
+        (many <= seen.least && !told && !twins, "ending with places for all, two alike"),
+        (many > seen.most && told && !full, "ending with too few places"),
         (full && count < MOST && arm.free() > 0, "full with a place left"),
         (!single, "list of those that no other is alike"),
         (arm.owned(1 - rack) != seen.left, "rows of the other rack"),
@@ -140,7 +145,10 @@ fn count_kinds(counts: &mut Counts, field: &Field, arm: &BuiltArm, seen: &Seen) 
     if BANDS.contains(&band.as_str()) {
         counts.row(&band);
     }
-    let (complete, full) = (ending == COMPLETE, ending == FULL);
+    let (complete, twins, full) = (ending == COMPLETE, ending == TWINS, ending == FULL);
+    let foreign_answers = !all_begin_with_e0(&field.answering);
+    let foreign_quiet =
+        field.cards.iter().any(|card| card.mode == QUIET && !begins_with_e0(card.uid));
     let rests = seen.taken + seen.freed == 0;
     let kinds = [
         many == 24,
@@ -167,6 +175,9 @@ fn count_kinds(counts: &mut Counts, field: &Field, arm: &BuiltArm, seen: &Seen) 
         seen.least < seen.most && seen.taken > 0,
         complete && many > seen.least,
         complete && seen.left.iter().any(|(_, uid)| field.answering.contains(uid)),
+        twins && foreign_answers && all_differ(&field.answering),
+        full && foreign_answers,
+        complete && foreign_quiet,
     ];
     counts.rows(KINDS, kinds);
 }

@@ -2,9 +2,11 @@
 
 use super::{BuiltArm, Seen};
 use crate::board::{shared, Lent};
+use crate::crowds::{other_first_byte, with_first_byte};
 use crate::groups::walks::replies::reply;
 use crate::random::Random;
-use crate::reference::walk::{Heard, PLACES};
+use crate::reference::walk::record::at;
+use crate::reference::walk::{Heard, FIRST_BYTE, PLACES};
 
 /// What the other rack does.
 #[derive(Clone, Copy, Debug)]
@@ -29,8 +31,8 @@ impl BuiltArm {
         let mut number = rack as u32;
         let (mut rows, mut marks) = (PLACES, PLACES);
         let record = &mut self.records[rack].0;
-        let kept = record[46..].to_vec();
-        record[47] = 0;
+        let kept = [record[at::COUNT], record[at::ENDING]];
+        record[at::ENDING] = 0;
         let refusal = random.pick(&[13, 10, 6, 5]);
         let starts = match refusal {
             13 => {
@@ -38,11 +40,11 @@ impl BuiltArm {
                 random.once_in(2)
             }
             10 => {
-                record[46] ^= 1;
+                record[at::COUNT] ^= 1;
                 false
             }
             6 => {
-                record[47] = 1;
+                record[at::ENDING] = 1;
                 false
             }
             _ if random.once_in(2) => {
@@ -60,7 +62,7 @@ impl BuiltArm {
         } else {
             shared::hear_clash(Lent::of(record), number, Lent::of(rows), Lent::of(marks))
         };
-        record[46..].copy_from_slice(&kept);
+        [record[at::COUNT], record[at::ENDING]] = kept;
         let same = *record == before.records[rack].0
             && (0..PLACES).all(|row| self.row(row) == before.row(row));
         (said == -refusal && same)
@@ -88,6 +90,9 @@ impl BuiltArm {
             }
             Meanwhile::Hears | Meanwhile::StartsAndHears if running && !random.once_in(8) => {
                 let uid = self.fitting(random, rack);
+                let first = other_first_byte(random);
+                let first = random.pick(&[FIRST_BYTE, FIRST_BYTE, FIRST_BYTE, FIRST_BYTE, first]);
+                let uid = with_first_byte(uid, first);
                 let heard = match random.below(6) {
                     0 => Heard::Silence,
                     1 => Heard::Clash,
@@ -110,9 +115,9 @@ impl BuiltArm {
     /// A UID that fits mask and slot.
     fn fitting(&self, random: &mut Random, rack: usize) -> u64 {
         let record = &self.records[rack].0;
-        let (mask, level, slot) = (&record[32..40], u32::from(record[44]), u64::from(record[45]));
-        let mask = u64::from_le_bytes(mask.try_into().unwrap());
-        let above = random.number().checked_shl(4 * (level + 1)).unwrap_or(0);
+        let (level, slot) = (u32::from(record[at::LEVEL]), u64::from(record[at::SLOT]));
+        let mask = u64::from_le_bytes(record[at::MASK].try_into().unwrap());
+        let above = random.number() << (4 * (level + 1));
         above | slot << (4 * level) | mask
     }
 }
