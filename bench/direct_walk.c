@@ -6,8 +6,11 @@
 
 #include "plain.h"
 
-#define LEVELS 16
+#define LEVELS EK_WALK_LEVELS
 #define SLOTS 16
+
+/* The first byte of every UID. */
+#define FIRST 0xE0
 
 /* One more than the deepest level with a mark, or 0. */
 static unsigned deepest(const struct ek_walk *walk)
@@ -29,7 +32,7 @@ static bool accepted(const struct ek_walk *walk)
     if (walk->level >= LEVELS || walk->slot >= SLOTS ||
         walk->count > EK_LIST_PLACES || walk->rounds == 0 ||
         walk->rounds > EK_WALK_ROUNDS_MAX ||
-        low(walk->mask, 4u * walk->level) != walk->mask) {
+        low(ek_walk_mask(walk), 4u * walk->level) != ek_walk_mask(walk)) {
         return false;
     }
     unsigned n = deepest(walk);
@@ -54,8 +57,11 @@ static void open(struct ek_walk *walk, unsigned level)
     while (slot < SLOTS - 1 && (walk->marks[level] >> slot & 1) == 0) {
         slot++;
     }
+    uint64_t mask =
+        low(ek_walk_mask(walk), 4 * level) | (uint64_t)slot << (4 * level);
     walk->marks[level] = (uint16_t)(walk->marks[level] & ~(1u << slot));
-    walk->mask = low(walk->mask, 4 * level) | (uint64_t)slot << (4 * level);
+    walk->mask_low = (uint32_t)mask;
+    walk->mask_high = (uint32_t)(mask >> 32);
     walk->rounds++;
     walk->level = (uint8_t)(level + 1);
     walk->slot = 0;
@@ -109,7 +115,8 @@ static bool clean(const struct ek_walk *walk, const uint8_t *bytes,
     }
     unsigned bits = 4u * walk->level;
     uint64_t uid = uid_of(bytes);
-    return low(uid, bits) == walk->mask && (uid >> bits) % SLOTS == walk->slot;
+    return low(uid, bits) == ek_walk_mask(walk) &&
+           (uid >> bits) % SLOTS == walk->slot && uid >> 56 == FIRST;
 }
 
 int64_t direct_walk_hear_silence(struct ek_walk *walk, uint64_t *list,

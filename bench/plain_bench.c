@@ -16,6 +16,8 @@
 #define INPUT_MAX 4096
 #define CARDS_MAX 100
 #define DIGITS 16
+/* The first byte of every UID. */
+#define FIRST 0xE0
 #define PRINTED_MAX 1200
 
 /* ---- input */
@@ -53,7 +55,7 @@ static bool read_uid(const uint8_t *line, size_t length, uint64_t *uid)
         }
         *uid = *uid << 4 | digit;
     }
-    return true;
+    return *uid >> 56 == FIRST;
 }
 
 static void new_card(struct card *card, uint64_t uid)

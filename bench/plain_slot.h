@@ -11,8 +11,11 @@
 #include "espenknoten.h"
 #include "plain.h"
 
-#define LEVELS 16
+#define LEVELS EK_WALK_LEVELS
 #define SLOTS 16
+
+/* The first byte of every UID. */
+#define FIRST 0xE0
 
 enum kind { SILENCE, CLASH, BYTES };
 
@@ -46,7 +49,7 @@ static bool accepted(struct ek_walk walk)
     if (walk.level >= LEVELS || walk.slot >= SLOTS ||
         walk.count > EK_LIST_PLACES || walk.rounds == 0 ||
         walk.rounds > EK_WALK_ROUNDS_MAX ||
-        low(walk.mask, 4u * walk.level) != walk.mask) {
+        low(ek_walk_mask(&walk), 4u * walk.level) != ek_walk_mask(&walk)) {
         return false;
     }
     unsigned n = deepest(walk.marks);
@@ -77,8 +80,11 @@ static struct ek_walk opened(struct ek_walk walk, unsigned level)
     while (slot < SLOTS - 1 && (walk.marks[level] >> slot & 1) == 0) {
         slot++;
     }
+    uint64_t mask =
+        low(ek_walk_mask(&walk), 4 * level) | (uint64_t)slot << (4 * level);
     walk.marks[level] = (uint16_t)(walk.marks[level] & ~(1u << slot));
-    walk.mask = low(walk.mask, 4 * level) | (uint64_t)slot << (4 * level);
+    walk.mask_low = (uint32_t)mask;
+    walk.mask_high = (uint32_t)(mask >> 32);
     walk.rounds++;
     walk.level = (uint8_t)(level + 1);
     walk.slot = 0;
@@ -126,7 +132,8 @@ static bool clean(struct ek_walk walk, const uint8_t *bytes, size_t length)
     }
     unsigned bits = 4u * walk.level;
     uint64_t uid = uid_of(bytes);
-    return low(uid, bits) == walk.mask && (uid >> bits) % SLOTS == walk.slot;
+    return low(uid, bits) == ek_walk_mask(&walk) &&
+           (uid >> bits) % SLOTS == walk.slot && uid >> 56 == FIRST;
 }
 
 static struct slot judged(struct ek_walk walk, enum kind kind,

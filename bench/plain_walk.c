@@ -81,6 +81,7 @@ int64_t plain_walk_ask(const struct ek_walk *walk, uint8_t *room,
     if (length < EK_REQUEST_MAX) {
         return EK_REFUSED_ROOM;
     }
+    uint64_t mask = ek_walk_mask(walk);
     size_t n = 0;
     room[n++] = walk->family < 256 ? 0x16 : 0x06;
     room[n++] = 0x01;
@@ -89,7 +90,7 @@ int64_t plain_walk_ask(const struct ek_walk *walk, uint8_t *room,
     }
     room[n++] = (uint8_t)(4 * walk->level);
     for (unsigned bits = 0; bits < 4u * walk->level; bits += 8) {
-        room[n++] = (uint8_t)(walk->mask >> bits);
+        room[n++] = (uint8_t)(mask >> bits);
     }
     uint16_t check = plain_check(room, n);
     room[n++] = (uint8_t)check;

@@ -71,6 +71,13 @@ static unsigned draw(unsigned below)
     return (unsigned)(x >> 16) % below;
 }
 
+/* A UID with these digits below, one in so many with another start than E0. */
+static uint64_t uid_of(uint64_t digits, unsigned others)
+{
+    uint64_t first = draw(others) == 0 ? draw(256) : 0xE0;
+    return first << 56 | (digits & ((UINT64_C(1) << 56) - 1));
+}
+
 static void answer_of(uint64_t uid, uint8_t *answer)
 {
     answer[0] = answer[1] = 0x00;
@@ -130,8 +137,8 @@ static void draw_cards(bool near)
     for (unsigned rack = 0; rack < RACKS; rack++) {
         counts[rack] = draw(CARDS_MAX + 1);
         for (unsigned i = 0; i < counts[rack]; i++) {
-            uint64_t uid = (uint64_t)draw(1u << 31) << 32 | draw(1u << 31);
-            cards[rack][i] = near ? uid & 0xFFF : uid;
+            uint64_t digits = (uint64_t)draw(1u << 31) << 32 | draw(1u << 31);
+            cards[rack][i] = uid_of(near ? digits & 0xFFF : digits, 512);
         }
     }
     if (counts[0] > 0 && counts[1] > 0) {
@@ -139,15 +146,17 @@ static void draw_cards(bool near)
     }
 }
 
-/* What the cards of a rack send in the slot: now and then a false reply. */
+/* What the cards of a rack send in the slot: now and then a false reply, of
+ * which many fit mask and slot. */
 static void answer_slot(unsigned rack, struct call *call)
 {
     const struct ek_walk *walk = &ours.walks[rack];
     unsigned bits = 4u * walk->level, answering = 0;
+    uint64_t mask = ek_walk_mask(walk);
     call->length = ANSWER;
     for (unsigned i = 0; i < counts[rack]; i++) {
         uint64_t uid = cards[rack][i];
-        if (((uid ^ walk->mask) & ((UINT64_C(1) << bits) - 1)) == 0 &&
+        if (((uid ^ mask) & ((UINT64_C(1) << bits) - 1)) == 0 &&
             (uid >> bits) % SLOTS == walk->slot) {
             answer_of(uid, call->answer);
             answering++;
@@ -155,7 +164,11 @@ static void answer_slot(unsigned rack, struct call *call)
     }
     call->heard = answering == 0 ? SILENCE : answering == 1 ? BYTES : CLASH;
     if (draw(64) == 0) {
-        answer_of(draw(1u << 31), call->answer);
+        uint64_t digits = draw(1u << 31);
+        if (draw(2) == 0) {
+            digits = (digits << 4 | walk->slot) << bits | mask;
+        }
+        answer_of(uid_of(digits, 2), call->answer);
         call->answer[draw(ANSWER)] ^= (uint8_t)draw(2);
         call->length = draw(8) == 0 ? ANSWER - 1 : ANSWER;
         call->heard = BYTES;
@@ -221,6 +234,10 @@ static void compare(void)
             call.rack = rack;
             call.family = (uint16_t)draw(300);
             same(rack, &call);
+            if (arm % 8 == 0) {
+                ours.walks[rack].rounds = EK_WALK_ROUNDS_MAX - 2;
+                plain.walks[rack].rounds = EK_WALK_ROUNDS_MAX - 2;
+            }
         }
         while (ours.walks[0].ending == EK_WALK_RUNNING ||
                ours.walks[1].ending == EK_WALK_RUNNING) {
@@ -298,7 +315,7 @@ static void prepare(size_t i)
     walk->family = 0x11;
     walk->level = 7;
     walk->rounds = 8;
-    walk->mask = UINT64_C(0x5A3C96F);
+    walk->mask_low = 0x5A3C96F;
     walk->marks[3] = 0x8020;
     walk->count = (uint8_t)row->owned[0];
     for (unsigned step = 0; step < STEPS; step++) {
@@ -308,7 +325,7 @@ static void prepare(size_t i)
         call->heard = row->heard;
         call->length = ANSWER;
         call->places = call->marks = EK_LIST_PLACES;
-        answer_of(UINT64_C(0xE004010000000000) | walk->mask | slot << 28,
+        answer_of(UINT64_C(0xE004010000000000) | walk->mask_low | slot << 28,
                   call->answer);
     }
 }

@@ -55,6 +55,13 @@ static uint64_t random64(void)
     return x;
 }
 
+/* A UID with these digits below, one in so many with another start than E0. */
+static uint64_t uid_of(uint64_t digits, unsigned others)
+{
+    uint64_t first = random64() % others == 0 ? random64() : 0xE0;
+    return first << 56 | (digits & ((UINT64_C(1) << 56) - 1));
+}
+
 static void answer_of(uint64_t uid, uint8_t *answer)
 {
     answer[0] = answer[1] = 0x00;
@@ -99,22 +106,28 @@ static void same(int64_t a, int64_t b, const struct state *ours,
     }
 }
 
-/* What the field sends in the slot: now and then a false reply. */
+/* What the field sends in the slot: now and then a false reply, of which many
+ * fit mask and slot. */
 static enum heard field(const uint64_t *cards, unsigned count,
                         const struct ek_walk *walk, uint8_t *answer,
                         size_t *length)
 {
     unsigned bits = 4u * walk->level, answering = 0;
+    uint64_t mask = ek_walk_mask(walk);
     *length = ANSWER;
     for (unsigned i = 0; i < count; i++) {
-        if (((cards[i] ^ walk->mask) & ((UINT64_C(1) << bits) - 1)) == 0 &&
+        if (((cards[i] ^ mask) & ((UINT64_C(1) << bits) - 1)) == 0 &&
             (cards[i] >> bits) % SLOTS == walk->slot) {
             answer_of(cards[i], answer);
             answering++;
         }
     }
     if (random64() % 64 == 0) {
-        answer_of(random64(), answer);
+        uint64_t digits = random64();
+        if (random64() % 2 == 0) {
+            digits = (digits << 4 | walk->slot) << bits | mask;
+        }
+        answer_of(uid_of(digits, 2), answer);
         answer[random64() % ANSWER] ^= (uint8_t)(random64() % 2);
         *length = random64() % 8 == 0 ? ANSWER - 1 : ANSWER;
         return BYTES;
@@ -132,10 +145,13 @@ static void compare_walks(const struct side *other)
         unsigned count = (unsigned)(random64() % CARDS_MAX);
         uint64_t spread = f % 2 == 0 ? 0xFFF : UINT64_MAX;
         for (unsigned i = 0; i < count; i++) {
-            cards[i] = random64() & spread;
+            cards[i] = uid_of(random64() & spread, 512);
         }
         LIBRARY.start(&ours.walk, (uint16_t)(f % 300));
         other->start(&plain.walk, (uint16_t)(f % 300));
+        if (f % 8 == 0) {
+            ours.walk.rounds = plain.walk.rounds = EK_WALK_ROUNDS_MAX - 2;
+        }
         for (unsigned step = 0; ours.walk.ending == EK_WALK_RUNNING; step++) {
             size_t room = step % 8 == 7 ? EK_REQUEST_MAX - 1 : EK_REQUEST_MAX;
             same(LIBRARY.ask(&ours.walk, ours.room, room),
@@ -208,10 +224,11 @@ static void prepare(size_t i)
     first.level = row->level;
     first.slot = row->slot;
     first.rounds = (uint16_t)(row->level + 1);
-    first.mask = UINT64_C(0x5A3C96F) & ((UINT64_C(1) << (4 * row->level)) - 1);
+    first.mask_low = 0x5A3C96F & ((1u << (4 * row->level)) - 1);
     first.marks[row->level / 2] = 0x8020;
     for (unsigned slot = 0; slot < STEPS; slot++) {
-        uint64_t digits = first.mask | (uint64_t)slot << (4 * row->level);
+        uint64_t digits =
+            ek_walk_mask(&first) | (uint64_t)slot << (4 * row->level);
         answer_of(UINT64_C(0xE004010000000000) | digits, replies[slot]);
     }
 }

@@ -110,7 +110,7 @@ static int random_field(void)
         x ^= x << 13;
         x ^= x >> 7;
         x ^= x << 17;
-        fprintf(file, "%016" PRIX64 "\n", x);
+        fprintf(file, "E0%014" PRIX64 "\n", x >> 8);
     }
     must(fflush(file) == 0, "no temporary file");
     return fileno(file);

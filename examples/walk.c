@@ -25,7 +25,7 @@ static void must(bool holds, const char *what)
     }
 }
 
-/* The low bits of a UID, up to 60 of them. */
+/* The low bits of a UID, up to 52 of them. */
 static uint64_t low(uint64_t uid, unsigned bits)
 {
     return uid & ((UINT64_C(1) << bits) - 1);
@@ -39,7 +39,7 @@ static uint64_t mask_of(const uint8_t *request, size_t length, unsigned *bits)
              request[1] == EK_COMMAND_INVENTORY,
          "no inventory request");
     *bits = request[2];
-    must(*bits <= 60 && length == 5 + (*bits + 7) / 8, "a mask too long");
+    must(*bits <= 52 && length == 5 + (*bits + 7) / 8, "a mask too long");
     return ek_get_number(request + 3, length - 5);
 }
 

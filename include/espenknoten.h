@@ -13,7 +13,7 @@
  *     for a list of UIDs uint64_t. All of these places are readable; those
  *     behind a pointer to non-const are writable too. A pointer may be NULL
  *     only if the number is 0. Bytes may stand anywhere; a list and a struct
- *     ek_walk are aligned as C aligns their types, to 8 bytes.
+ *     ek_walk are aligned as C aligns their types, to 8 bytes and to 4.
  *   - The buffers of one call do not overlap.
  *   - The caller owns every buffer. Nothing is kept after the call returns,
  *     nothing is allocated, and there is no state between calls.
@@ -44,8 +44,8 @@ extern "C" {
  * returns the number of the archive's own version: if it is not EK_VERSION,
  * header and archive do not belong together. Refuses nothing.
  */
-#define EK_VERSION_MAJOR 2
-#define EK_VERSION_MINOR 4
+#define EK_VERSION_MAJOR 3
+#define EK_VERSION_MINOR 0
 #define EK_VERSION_PATCH 0
 #define EK_VERSION                                                             \
     (65536 * EK_VERSION_MAJOR + 256 * EK_VERSION_MINOR + EK_VERSION_PATCH)
@@ -450,47 +450,66 @@ int64_t ek_card_power_off(uint8_t *record, size_t record_length,
  *         if (n < 0) ..                             refused: stop and tell
  *     }
  *
+ * Every UID begins with E0 (ISO/IEC 15693-3, clause 4.1). So two that differ do
+ * so in their low fourteen digits, and the walk has EK_WALK_LEVELS levels. A
+ * tag in the field whose UID does not begin with E0 is heard as a clash and
+ * never listed, and while it answers the walk never ends EK_WALK_COMPLETE: even
+ * alone in its slot it leads the walk down to the last level and to
+ * EK_WALK_TWINS there, unless EK_WALK_FULL comes before. espenknoten(3) says
+ * what to do.
+ *
  * The record has no hidden part: it may be copied, kept and read at any time.
  * Its pointer is never NULL, and it overlaps no buffer of the same call.
  * Every value of every field has a meaning. A call that gives EK_REFUSED_WALK
- * has left the record as it is: its level or slot is over 15, its count over
- * EK_LIST_PLACES, its rounds are 0 or over EK_WALK_ROUNDS_MAX, its mask has a
- * bit above the low 4 * level, or a mark stands at a level deeper than its own
- * or at the last. ek_shared_hear_.. gives it for its list too, as told there.
+ * has left the record as it is: its level is over 13, its slot over 15, its
+ * count over EK_LIST_PLACES, its rounds are 0 or over EK_WALK_ROUNDS_MAX, its
+ * mask has a bit above the low 4 * level, or a mark stands at a level deeper
+ * than its own or at the last. ek_shared_hear_.. gives it for its list too, as
+ * told there.
  */
+#define EK_WALK_LEVELS 14 /* 0 to 13 */
+
 struct ek_walk {
-    uint16_t marks[16]; /* for each level: bit s is set while slot s clashed
-                           there and waits to be opened */
-    uint64_t mask;      /* the digits opened so far: the low 4 * level bits */
+    /* for each level: bit s is set while slot s clashed there and waits to be
+       opened */
+    uint16_t marks[EK_WALK_LEVELS];
     uint16_t rounds;    /* the rounds begun, 1 to EK_WALK_ROUNDS_MAX */
     uint16_t family;    /* 0 to 255: an AFI, where 0xX0 calls all tags of high
                            digit X, 0 all tags, any other only its own; all
                            else: no family, all tags */
-    uint8_t level;      /* the digits of the mask, 0 to 15 */
+    uint32_t mask_low;  /* the digits opened so far: the low 4 * level bits */
+    uint32_t mask_high; /* of mask_low + mask_high * 2^32, see ek_walk_mask */
+    uint8_t level;      /* the digits of the mask, 0 to 13 */
     uint8_t slot;       /* the slot to be heard next, 0 to 15 */
     uint8_t count;      /* the UIDs listed, 0 to EK_LIST_PLACES */
     uint8_t ending;     /* one of EK_WALK_.. below; all else: overrun */
 };
 
 /*
- * The record is 48 bytes, without padding: else this does not compile. It is
- * aligned as uint64_t is.
+ * The record is 44 bytes, without padding: else this does not compile. It is
+ * aligned as uint32_t is.
  */
-typedef char ek_walk_has_48_bytes[sizeof(struct ek_walk) == 48 ? 1 : -1];
+typedef char ek_walk_has_44_bytes[sizeof(struct ek_walk) == 44 ? 1 : -1];
+
+/* The mask of a walk as one number. */
+static inline uint64_t ek_walk_mask(const struct ek_walk *walk)
+{
+    return (uint64_t)walk->mask_high << 32 | walk->mask_low;
+}
 
 /* The walk's endings, and 0 as long as it runs. */
 #define EK_WALK_RUNNING 0
 #define EK_WALK_COMPLETE 1 /* no clash waits */
-#define EK_WALK_TWINS 2    /* a clash at level 15, as of two UIDs alike */
+#define EK_WALK_TWINS 2    /* a clash at level 13, as of two UIDs alike */
 #define EK_WALK_FULL 3     /* a UID with EK_LIST_PLACES listed; shared: below */
 #define EK_WALK_OVERRUN 4  /* a round over EK_WALK_ROUNDS_MAX was needed */
 
 #define EK_WALK_NO_FAMILY 256
-#define EK_WALK_ROUNDS_MAX 481
+#define EK_WALK_ROUNDS_MAX 417
 
-/* The places of the list, and the longest request in bytes. */
+/* The places of the list, and the room that a request has to have. */
 #define EK_LIST_PLACES 64
-#define EK_REQUEST_MAX 14
+#define EK_REQUEST_MAX 14 /* the longest request takes 13 */
 
 /* What ek_walk_ask returns where there is no request to send. */
 #define EK_SEND_NOTHING 0
@@ -506,9 +525,9 @@ void ek_walk_start(struct ek_walk *walk, uint16_t family);
 
 /*
  * What to send now; it may be asked often, and the record stays as it is. The
- * length of a request, 5 to EK_REQUEST_MAX, which then stands at the start of
- * request; or EK_SEND_MARK for a slot mark; or EK_SEND_NOTHING after an ending.
- * For the last two no byte of request changes.
+ * length of a request, 5 to 13, which then stands at the start of request; or
+ * EK_SEND_MARK for a slot mark; or EK_SEND_NOTHING after an ending. For the
+ * last two no byte of request changes.
  * EK_REFUSED_WALK. EK_REFUSED_ROOM, looked for after that: what to send is a
  * request, and room is less than EK_REQUEST_MAX, whatever the request needs.
  */
@@ -518,11 +537,11 @@ int64_t ek_walk_ask(const struct ek_walk *walk, uint8_t *request, size_t room);
  * The slot is over: nothing was heard, or something that can't be read, or
  * length bytes. Bytes are a clean reply if there are EK_INVENTORY_ANSWER of
  * them, sealed, they begin with EK_ANSWER_SUCCESS, and their UID fits mask and
- * slot; all else is a clash. Returns 0. The record is then that of the next
- * slot, or of the next round, or an ending has been noted in it; the UID of a
- * clean reply, unless the walk ends EK_WALK_FULL at it, stands in list at the
- * place that walk->count had, and no other place changes. Only the first
- * EK_LIST_PLACES places are used.
+ * slot and begins with E0; all else is a clash. Returns 0. The record is then
+ * that of the next slot, or of the next round, or an ending has been noted in
+ * it; the UID of a clean reply, unless the walk ends EK_WALK_FULL at it, stands
+ * in list at the place that walk->count had, and no other place changes. Only
+ * the first EK_LIST_PLACES places are used.
  * In this order EK_REFUSED_WALK, EK_REFUSED_ENDED, EK_REFUSED_LIST, which is a
  * list of fewer than EK_LIST_PLACES places: the record and the list stay as
  * they are.
@@ -567,11 +586,12 @@ int64_t ek_walk_hear_bytes(struct ek_walk *walk, const uint8_t *bytes,
  * request that reaches it. Where a tag hears both racks let one walk end before
  * the other sends: else both may end EK_WALK_COMPLETE without it.
  *
- * With up to 24 tags answering a rack, its walk ends as one that has a list of
- * its own: EK_WALK_COMPLETE, or EK_WALK_TWINS where two are alike. With 25 to
- * EK_RACK_ROWS_MAX it may also end EK_WALK_FULL, two alike or not, where the
- * other rack has left too few rows: when more are free, start it anew. With
- * more tags it never ends EK_WALK_COMPLETE.
+ * With up to 24 tags answering a rack, their UIDs beginning with E0, its walk
+ * ends as one that has a list of its own: EK_WALK_COMPLETE, or EK_WALK_TWINS
+ * where two are alike. With 25 to EK_RACK_ROWS_MAX it may also end
+ * EK_WALK_FULL, two alike or not, where the other rack has left too few rows:
+ * when more are free, start it anew. With more tags it never ends
+ * EK_WALK_COMPLETE.
  *
  * A walk keeps to the calls, the rack and the list that it was started with:
  * ek_walk_start goes with ek_walk_hear_.., ek_shared_start with
@@ -760,8 +780,9 @@ struct ek_reading ek_read(struct ek_request request, const uint8_t *answer,
  * tells, and the walk and ek_read look at it.
  *
  * So a walk on the coil counts different answers and not tags: two tags alike
- * in UID and DSFID count as one, and EK_WALK_TWINS means one UID with different
- * DSFIDs. What to tell the walk of a slot, r being what ek_coil_decode returns:
+ * in UID and DSFID count as one, and EK_WALK_TWINS means, of UIDs that begin
+ * with E0, one UID with different DSFIDs. What to tell the walk of a slot, r
+ * being what ek_coil_decode returns:
  *
  *   no subcarrier                              ek_walk_hear_silence
  *   EK_COIL_KIND(r) is EK_COIL_ANSWER          ek_walk_hear_bytes

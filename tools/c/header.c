@@ -16,6 +16,8 @@
 #endif
 
 #define UID UINT64_C(0xE004010203040506)
+/* Every UID begins so. */
+#define E0 UINT64_C(0xE000000000000000)
 #define BLOCKS 4
 #define SIZE 3
 
@@ -515,25 +517,39 @@ static int64_t reply(uint64_t uid)
     return ek_walk_hear_bytes(&walk, bytes, sizeof bytes, list, EK_LIST_PLACES);
 }
 
+static void put_mask(uint64_t mask)
+{
+    walk.mask_low = (uint32_t)mask;
+    walk.mask_high = (uint32_t)(mask >> 32);
+}
+
 /* Every field of a walk, through a clash, its opening, and the end. */
 static void fields(void)
 {
-    MUST(sizeof walk == 48);
+    struct {
+        uint8_t byte;
+        struct ek_walk walk;
+    } aligned;
+    MUST(sizeof walk == 44);
+    MUST(sizeof aligned == sizeof walk + sizeof(uint32_t));
+    MUST(sizeof walk.marks == EK_WALK_LEVELS * sizeof walk.marks[0]);
     memset(&walk, 0xFF, sizeof walk);
+    MUST(ek_walk_mask(&walk) == UINT64_MAX);
     ek_walk_start(&walk, EK_WALK_NO_FAMILY);
-    MUST(walk.mask == 0 && walk.rounds == 1 && walk.level == 0);
+    MUST(walk.mask_low == 0 && walk.mask_high == 0);
+    MUST(ek_walk_mask(&walk) == 0 && walk.rounds == 1 && walk.level == 0);
     MUST(walk.family == EK_WALK_NO_FAMILY && walk.slot == 0 && walk.count == 0);
     MUST(walk.ending == EK_WALK_RUNNING);
     MUST(ask() == 5 && request[0] == (0x02 | EK_FLAG_INVENTORY));
     MUST(request[1] == EK_COMMAND_INVENTORY && request[2] == 0);
     MUST(silence() == 0 && walk.slot == 1);
     MUST(ask() == EK_SEND_MARK);
-    MUST(reply(0x11) == 0 && walk.count == 1 && list[0] == 0x11);
+    MUST(reply(E0 + 0x11) == 0 && walk.count == 1 && list[0] == E0 + 0x11);
     MUST(clash() == 0 && walk.marks[0] == 1u << 2);
     while (walk.slot != 0) {
         MUST(walk.rounds == 1 && silence() == 0);
     }
-    MUST(walk.rounds == 2 && walk.level == 1 && walk.mask == 2);
+    MUST(walk.rounds == 2 && walk.level == 1 && ek_walk_mask(&walk) == 2);
     MUST(walk.marks[0] == 0);
     MUST(ask() == 6 && request[2] == 4 && request[3] == 2);
     while (walk.ending == EK_WALK_RUNNING) {
@@ -580,17 +596,78 @@ static void families(void)
     MUST(found(0xB0) == 0 && found(0xAE) == 0);
 }
 
-/* The longest request, and a clash at its level. */
+/* The longest request, and a clash at its level, the last. */
 static void deepest(void)
 {
+    const uint64_t mask = UID % (UINT64_C(1) << 52);
     ek_walk_start(&walk, 0x30);
-    walk.level = 15;
-    walk.mask = UID % (UINT64_C(1) << 60);
-    walk.rounds = 16;
+    walk.level = 13;
+    put_mask(mask);
+    walk.rounds = 14;
+    MUST(ek_walk_mask(&walk) == mask);
     MUST(ek_walk_ask(&walk, request, EK_REQUEST_MAX - 1) == EK_REFUSED_ROOM);
-    MUST(ask() == EK_REQUEST_MAX);
-    MUST(request[3] == 60 && ek_get_number(request + 4, 8) == walk.mask);
+    MUST(ask() == 13);
+    MUST(request[3] == 52 && ek_get_number(request + 4, 7) == mask);
     MUST(clash() == 0 && walk.ending == EK_WALK_TWINS);
+    walk.ending = EK_WALK_RUNNING;
+    walk.level = 12;
+    put_mask(mask % (UINT64_C(1) << 48));
+    MUST(clash() == 0 && walk.ending == EK_WALK_RUNNING);
+    MUST(walk.marks[12] == 1);
+}
+
+/* A tag alone in the field whose UID does not begin with E0: a clash at each of
+ * the fourteen levels, and twins at the last. The record has its digits. */
+static void other_tag(uint64_t uid)
+{
+    list[0] = UID;
+    ek_walk_start(&walk, EK_WALK_NO_FAMILY);
+    while (walk.ending == EK_WALK_RUNNING) {
+        unsigned bits = 4u * walk.level;
+        uint64_t tail = uid % (UINT64_C(1) << bits);
+        MUST(walk.rounds == walk.level + 1 && ek_walk_mask(&walk) == tail);
+        MUST(walk.mask_low == (uint32_t)tail && walk.mask_high == tail >> 32);
+        MUST((walk.slot == (uid >> bits) % 16 ? reply(uid) : silence()) == 0);
+    }
+    MUST(walk.ending == EK_WALK_TWINS && walk.rounds == EK_WALK_LEVELS);
+    MUST(walk.level == 13 && walk.slot == (uid >> 52) % 16);
+    MUST(walk.count == 0 && list[0] == UID);
+}
+
+/* Every first byte, of a reply that fits mask and slot: at the first level, at
+ * the last, and with the list full. */
+static void first_bytes(void)
+{
+    for (unsigned first = 0; first < 256; first++) {
+        const uint64_t uid = UID % (UINT64_C(1) << 56) | (uint64_t)first << 56;
+        const bool good = first == 0xE0;
+        const unsigned slot = UID % 16;
+        if (!good) {
+            other_tag(uid);
+        }
+        for (unsigned count = 0; count <= EK_LIST_PLACES;
+             count += EK_LIST_PLACES) {
+            ek_walk_start(&walk, EK_WALK_NO_FAMILY);
+            walk.slot = (uint8_t)slot;
+            walk.count = (uint8_t)count;
+            list[0] = 0;
+            MUST(reply(uid) == 0);
+            MUST(walk.marks[0] == (good ? 0 : 1u << slot));
+            MUST(walk.count == count + (good && count == 0));
+            MUST(list[0] == (good && count == 0 ? uid : 0));
+            MUST(walk.ending == (good && count > 0 ? EK_WALK_FULL
+                                                   : EK_WALK_RUNNING));
+            walk.level = 13;
+            walk.slot = (UID >> 52) % 16;
+            walk.count = (uint8_t)count;
+            walk.ending = EK_WALK_RUNNING;
+            put_mask(UID % (UINT64_C(1) << 52));
+            MUST(reply(uid) == 0);
+            MUST(walk.ending == (!good        ? EK_WALK_TWINS
+                                 : count == 0 ? EK_WALK_RUNNING
+                                              : EK_WALK_FULL));
+        }
+    }
 }
 
 static void full(void)
@@ -598,9 +675,10 @@ static void full(void)
     ek_walk_start(&walk, EK_WALK_NO_FAMILY);
     list[EK_LIST_PLACES] = UID;
     walk.count = EK_LIST_PLACES - 1;
-    MUST(reply(0x10) == 0 && walk.ending == EK_WALK_RUNNING);
-    MUST(walk.count == EK_LIST_PLACES && list[EK_LIST_PLACES - 1] == 0x10);
-    MUST(reply(0x21) == 0 && walk.ending == EK_WALK_FULL);
+    MUST(reply(E0 + 0x10) == 0 && walk.ending == EK_WALK_RUNNING);
+    MUST(walk.count == EK_LIST_PLACES);
+    MUST(list[EK_LIST_PLACES - 1] == E0 + 0x10);
+    MUST(reply(E0 + 0x21) == 0 && walk.ending == EK_WALK_FULL);
     MUST(walk.count == EK_LIST_PLACES && list[EK_LIST_PLACES] == UID);
     walk.count = EK_LIST_PLACES + 1;
     MUST(ask() == EK_REFUSED_WALK);
@@ -638,23 +716,34 @@ static void orders_of_walk(void)
     struct ek_walk good, wrong;
     const uint8_t bytes[1] = {0};
     ek_walk_start(&good, EK_WALK_NO_FAMILY);
-    good.level = 14;
-    wrong = good;
-    wrong.level = 16;
-    MUST(no_walk(wrong));
-    wrong = good;
-    wrong.slot = 16;
-    MUST(no_walk(wrong));
+    for (unsigned value = 0; value < 256; value++) {
+        wrong = good;
+        wrong.level = (uint8_t)value;
+        MUST(no_walk(wrong) == (value > 13));
+        wrong = good;
+        wrong.slot = (uint8_t)value;
+        MUST(no_walk(wrong) == (value > 15));
+    }
+    for (unsigned level = 0; level < EK_WALK_LEVELS; level++) {
+        for (unsigned bit = 0; bit < 64; bit++) {
+            wrong = good;
+            wrong.level = (uint8_t)level;
+            wrong.mask_low = bit < 32 ? UINT32_C(1) << bit : 0;
+            wrong.mask_high = bit < 32 ? 0 : UINT32_C(1) << (bit - 32);
+            MUST(no_walk(wrong) == (bit >= 4 * level));
+        }
+        for (unsigned marked = 0; marked < EK_WALK_LEVELS; marked++) {
+            wrong = good;
+            wrong.level = (uint8_t)level;
+            wrong.marks[marked] = 1;
+            MUST(no_walk(wrong) == (marked > level || marked == 13));
+        }
+    }
     wrong = good;
     wrong.rounds = 0;
     MUST(no_walk(wrong));
-    wrong = good;
-    wrong.mask = UINT64_C(1) << 56;
-    MUST(no_walk(wrong));
-    wrong = good;
-    wrong.marks[15] = 1;
-    MUST(no_walk(wrong));
-    good.marks[14] = 1;
+    good.level = 12;
+    good.marks[12] = 1;
     MUST(!no_walk(good));
 
     /* 10, 6, 5 to hear; 10, 8 to ask. */
@@ -818,17 +907,19 @@ static void shared_rows(void)
             count_so(own);
             MUST(shared_silence(rack) == 0 && walk.slot == 1 && kept());
             MUST(shared_clash(rack) == 0 && walk.marks[0] == 1u << 1 && kept());
-            MUST(shared_reply(rack, 0x10) == 0 && kept()); /* not of slot 2 */
-            MUST(walk.marks[0] == (1u << 1 | 1u << 2) && walk.count == own);
-            MUST(shared_reply(rack, 0x13) == 0 && kept_but(row));
-            MUST(rows[row] == 0x13 && owners[row] == rack);
-            MUST(walk.count == own + 1 && walk.slot == 4);
+            MUST(shared_reply(rack, E0 + 0x10) == 0); /* not of slot 2 */
+            MUST(shared_reply(rack, 0x13) == 0 && kept()); /* no E0 */
+            MUST(walk.marks[0] == (1u << 1 | 1u << 2 | 1u << 3));
+            MUST(walk.count == own);
+            MUST(shared_reply(rack, E0 + 0x14) == 0 && kept_but(row));
+            MUST(rows[row] == E0 + 0x14 && owners[row] == rack);
+            MUST(walk.count == own + 1 && walk.slot == 5);
         }
     }
 }
 
 /* Full with the most rows of a rack, or with no row free; the ending alone
- * changes. */
+ * changes. A reply whose UID does not begin with E0 is a clash there too. */
 static void shared_full(void)
 {
     for (uint32_t rack = 0; rack < 2; rack++) {
@@ -836,13 +927,16 @@ static void shared_full(void)
         size_t most = EK_RACK_ROWS_MAX;
         share(rack == 0 ? most - 1 : 0, rack == 1 ? most - 1 : 0);
         count_so(most - 1);
-        MUST(shared_reply(rack, 0x10) == 0 && rows[most - 1] == 0x10);
+        MUST(shared_reply(rack, E0 + 0x10) == 0);
+        MUST(rows[most - 1] == E0 + 0x10);
         MUST(walk.count == most && walk.ending == EK_WALK_RUNNING);
         MUST(shared_silence(rack) == 0 && shared_clash(rack) == 0);
         keep();
+        MUST(shared_reply(rack, 0x23) == 0 && kept());
+        MUST(walk.marks[0] == (1u << 2 | 1u << 3) && walk.count == most);
         before = walk;
         before.ending = EK_WALK_FULL;
-        MUST(shared_reply(rack, 0x23) == 0 && kept());
+        MUST(shared_reply(rack, E0 + 0x24) == 0 && kept());
         MUST(memcmp(&walk, &before, sizeof walk) == 0);
         MUST(ask() == EK_SEND_NOTHING);
 
@@ -850,13 +944,23 @@ static void shared_full(void)
         size_t rest = EK_LIST_PLACES - most;
         share(rack == 0 ? rest - 1 : most, rack == 0 ? most : rest - 1);
         count_so(rest - 1);
-        MUST(shared_reply(rack, 0x10) == 0 && walk.count == rest);
-        MUST(rows[EK_LIST_PLACES - 1] == 0x10);
+        MUST(shared_reply(rack, E0 + 0x10) == 0 && walk.count == rest);
+        MUST(rows[EK_LIST_PLACES - 1] == E0 + 0x10);
         MUST(owners[EK_LIST_PLACES - 1] == rack);
         keep();
+        MUST(shared_reply(rack, 0x21) == 0 && kept());
+        MUST(walk.marks[0] == 1u << 1 && walk.count == rest);
         before = walk;
         before.ending = EK_WALK_FULL;
-        MUST(shared_reply(rack, 0x21) == 0 && kept());
+        MUST(shared_reply(rack, E0 + 0x22) == 0 && kept());
+        MUST(memcmp(&walk, &before, sizeof walk) == 0);
+
+        /* Twins at the last level. */
+        count_so(rest);
+        walk.level = 13;
+        before = walk;
+        before.ending = EK_WALK_TWINS;
+        MUST(shared_reply(rack, 0) == 0 && kept());
         MUST(memcmp(&walk, &before, sizeof walk) == 0);
     }
 }
@@ -897,19 +1001,22 @@ static void shared_as_unshared(void)
         alone.rounds = (uint16_t)(n % 4 == 0 ? EK_WALK_ROUNDS_MAX - 3 : 1);
         share(0, n % 24);
         while (alone.ending == EK_WALK_RUNNING) {
-            uint64_t digit = (uint64_t)alone.slot << (4 * alone.level);
+            uint64_t tail = ek_walk_mask(&alone) |
+                            (uint64_t)alone.slot << (4 * alone.level);
             struct ek_walk shared = alone;
             seed = seed * 1103515245 + 12345;
-            unsigned what = alone.count == EK_RACK_ROWS_MAX ? 0
-                                                            : seed >> 16 & 7;
+            unsigned what = alone.count == EK_RACK_ROWS_MAX ? 15
+                                                            : seed >> 16 & 15;
             walk = alone;
-            MUST((what == 1   ? clash()
-                  : what == 2 ? reply(alone.mask | digit)
+            MUST((what == 0   ? clash()
+                  : what == 1 ? reply(tail) /* no E0 */
+                  : what < 4  ? reply(E0 | tail)
                               : silence()) == 0);
             alone = walk;
             walk = shared;
-            MUST((what == 1   ? shared_clash(0)
-                  : what == 2 ? shared_reply(0, shared.mask | digit)
+            MUST((what == 0   ? shared_clash(0)
+                  : what == 1 ? shared_reply(0, tail)
+                  : what < 4  ? shared_reply(0, E0 | tail)
                               : shared_silence(0)) == 0);
             MUST(memcmp(&walk, &alone, sizeof walk) == 0);
         }
@@ -983,7 +1090,7 @@ static void orders_of_shared(void)
         MUST(shared_start(none[i]) == EK_REFUSED_RACK);
         MUST(shared_silence(none[i]) == EK_REFUSED_RACK);
         MUST(shared_clash(none[i]) == EK_REFUSED_RACK);
-        MUST(shared_reply(none[i], 0x10) == EK_REFUSED_RACK);
+        MUST(shared_reply(none[i], E0 + 0x10) == EK_REFUSED_RACK);
     }
     MUST(ek_shared_start(&walk, 0, 0x30, owners, EK_LIST_PLACES - 1) ==
          EK_REFUSED_LIST);
@@ -1555,6 +1662,7 @@ int main(void)
     fields();
     families();
     deepest();
+    first_bytes();
     full();
     overrun();
     orders_of_walk();

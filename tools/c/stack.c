@@ -235,7 +235,8 @@ static void card(void)
     }
 }
 
-/* A clash in the slot of each level down to twins, a clean reply, silence. */
+/* A clash in the slot of each level down to twins, a clean reply, one whose UID
+ * does not begin with E0, silence. */
 static void walk_down(void (*silence)(void), void (*clash)(void),
                       void (*bytes)(void))
 {
@@ -243,10 +244,12 @@ static void walk_down(void (*silence)(void), void (*clash)(void),
         measure(walk_ask);
         if (walk.slot == 0) {
             measure(clash);
-        } else if (walk.slot == 1) {
+        } else if (walk.slot < 3) {
+            uint64_t first = walk.slot == 1 ? 0xE0 : 0xD0;
             memset(frame, 0, sizeof frame);
             ek_put_number(frame + EK_INVENTORY_UID, 8,
-                          walk.mask + (UINT64_C(1) << (4 * walk.level)));
+                          first << 56 | ek_walk_mask(&walk) |
+                              (uint64_t)walk.slot << (4 * walk.level));
             back = ek_seal(frame, sizeof frame, EK_INVENTORY_CHECK);
             length = (size_t)back;
             measure(bytes);
@@ -254,7 +257,7 @@ static void walk_down(void (*silence)(void), void (*clash)(void),
             measure(silence);
         }
     }
-    if (walk.ending != EK_WALK_TWINS || walk.count != 15) {
+    if (walk.ending != EK_WALK_TWINS || walk.count != EK_WALK_LEVELS - 1) {
         exit(1);
     }
 }
