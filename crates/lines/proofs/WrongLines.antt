@@ -1,7 +1,7 @@
 -- A line that is wrong however it goes on: the 101st, one of 17 bytes, one with a byte that is no digit; and no line past 101 is told.
 -- By induction over what follows. Assumes nothing.
 use mathlib.Core.Path.{_≡_, refl, sym, ap, _∙_}
-use mathlib.Core.Bool.{Bool, true, false, cond, _&&_}
+use mathlib.Core.Bool.{Bool, true, false, cond, _&&_, and-false}
 use Prim.Native.Nat.{ℕ, suc, _+_, _≤_, _<_}
 use native.Mathlib.Omega.{arith}
 use mathlib.Core.List.{List, [], _∷_, _++_, append-assoc, append-nil}
@@ -19,10 +19,6 @@ all-digits-append (x ∷ xs) ys = by (ltb (digitOf x) 16) (all-digits-append xs 
     by : (t : Bool) → allDigits (xs ++ ys) ≡ (allDigits xs && allDigits ys) → (t && allDigits (xs ++ ys)) ≡ ((t && allDigits xs) && allDigits ys)
     by true e = e
     by false e = refl
-
-and-false : (a : Bool) → (a && false) ≡ false
-and-false true = refl
-and-false false = refl
 
 unfoldable pub isGood : ℕ → List ℕ → Bool
 isGood n line = leb n 100 && isUid line

@@ -1,7 +1,7 @@
 -- The examples of the walk, by computation and by the tests of the definitions: the empty field, the numbers 417, 64 and 13 of the endings, a UID
 -- that does not begin with E0, and number 10, rounds and slots of a walk of fourteen levels. Assumes nothing.
 use mathlib.Core.Path.{_≡_, refl, ap, _∙_}
-use mathlib.Core.Bool.{Bool, true, false, _&&_}
+use mathlib.Core.Bool.{true, false, _&&_, and-false}
 use mathlib.Core.List.{List, []}
 use Prim.Native.Nat.{ℕ, zero, suc, _+_, _*_, _/_, _^_, _≤_, _<_}
 use native.Mathlib.Decide.{decLe}
@@ -10,6 +10,7 @@ use native.Mathlib.Omega.{arith}
 use borrow.Author.Tests.{le-leb, lt-ltb, lt-leb, le-ltb, eq-eqb, ne-eqb}
 use lib.Dec.{leb, ltb, eqb}
 use lib.ListN.{length}
+use Rattle.slots.specs.Fits.{maskBytes}
 use Rattle.walk.specs.declared.Walk.{Walk}
 use Rattle.walk.specs.declared.Kind.the-variants.{Silence, Bytes}
 use Rattle.walk.specs.declared.Slot.the-variants.{Silent, Clashed}
@@ -17,7 +18,10 @@ use Rattle.walk.specs.Marks.{levels, deepestOf, deepest}
 use Rattle.walk.specs.Record.{places, levelsOf, mostRounds, mostSlots, maskLength, wholeMask, complete, isRunning, marksFit, isAccepted}
 use Rattle.walk.specs.Record.{remade, ended, atNextSlot, noMarks, startedOf, started}
 use Rattle.walk.specs.Hear.{uidOf, startsE0, isClean, judged, hasPlace, endsAtOnce, noted, listNoted, turned, passed, walkAfter, listAfter, refusal, Hearing, hearing}
+use Rattle.walk.specs.Ask.{request}
 use Rattle.walk.specs.Examples.{silentSlots, atSlot, Walks}
+use Rattle.walk.proofs.Limits.{accepted-of-is-accepted}
+use Rattle.walk.proofs.Requests.{length-head-most, length-request}
 
 -- the slots of the first round
 slot-accepted : (family slot : ℕ) → slot ≤ 15 → isAccepted (atSlot family slot 0) ≡ true
@@ -98,15 +102,17 @@ sixteen-tests : (w : Walk) → levelsOf w ≡ 16 → isAccepted w ≡ (leb (w .l
 unfolding isAccepted marksFit places maskLength levelsOf
 sixteen-tests w l = rw (l, sixteen-limit, ltb-suc (w .level) 15)
 
+longest : (w : Walk) → levelsOf w ≡ 14 → isAccepted w ≡ true → length (request w) ≤ 13
+unfolding levelsOf maskLength maskBytes
+longest w l e =
+    let level : w .level < length (w .marks) = accepted-of-is-accepted w e .level in
+    omega (arith, length-request w, length-head-most w, level, l)
+
 -- ---- a UID that does not begin with E0
 
 starts : (uid : ℕ) → startsE0 14 uid ≡ eqb (uid / 2 ^ 56) 0xe0
 unfolding startsE0
 starts uid = refl
-
-and-false : (a : Bool) → (a && false) ≡ false
-and-false true = refl
-and-false false = refl
 
 foreign : (w : Walk) (bytes : List ℕ) → levelsOf w ≡ 14 → (uidOf bytes / 2 ^ 56 ≡ 0xe0 → ⊥) → judged w Bytes bytes ≡ Clashed
 unfolding judged isClean
@@ -141,6 +147,7 @@ walks =
       most-rounds = limit;
       rounds-of-levels = λ n. limit-of n;
       most-slots = slots;
+      longest-request = longest;
       sixteen-levels = sixteen;
       sixteen-most-rounds = sixteen-limit;
       sixteen-481-opens = λ w j l s r d. last-slot w s ∙ rw (d, l, sixteen-limit, r);

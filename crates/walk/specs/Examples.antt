@@ -11,6 +11,7 @@ use Rattle.walk.specs.declared.Kind.the-variants.{Silence, Bytes}
 use Rattle.walk.specs.declared.Slot.the-variants.{Silent, Clashed, Clean}
 use Rattle.walk.specs.Marks.{levels, deepest}
 use Rattle.walk.specs.Record.{levelsOf, mostRounds, mostSlots, wholeMask, complete, twins, full, overrun, isAccepted, ended, counted, marked, opened, noMarks, startedOf, started}
+use Rattle.walk.specs.Ask.{request}
 use Rattle.walk.specs.Hear.{uidOf, startsE0, judged, hasPlace, passed, walkAfter, Hearing, hearing}
 
 -- n silent slots heard one after another, with a list
@@ -54,6 +55,8 @@ pub record Walks : Type 0 where
   -- "at most 1 + 15 × (n / 2 rounded down)", with 64 cards and a level more than these 15; 02's 13 likewise
   pub rounds-of-levels : (n : ℕ) → mostRounds (n + 1) ≡ 1 + n * (64 / 2)
   pub most-slots : mostSlots 14 ≡ 16 * 417
+  -- its longest request, of mask length 34 and with a family, has a byte less than the 14 that number 8 asks for
+  pub longest-request : (w : Walk) → levelsOf w ≡ 14 → isAccepted w ≡ true → length (request w) ≤ 13
   -- 01's walk: "its 16 levels", "481 for 64", "overrun (round 482 would be needed)", "twins (a clash at k=15, at once)", number 10 as it was; and of a UID of
   -- 64 bits nothing is above its levels
   pub sixteen-levels : (family : ℕ) → levelsOf (startedOf 16 family) ≡ 16
