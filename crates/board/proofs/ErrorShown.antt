@@ -11,10 +11,10 @@ use Rattle.reader.specs.declared.Told.{Told}
 use Rattle.reader.specs.Reading.{reading, Reads, shows_data}
 use Rattle.reader.proofs.Errors.{error-shows-nothing}
 use Rattle.board.specs.declared.answers.Shown.{Shown}
-use Rattle.board.specs.Answers.{noInformation, informationOf, ReadsByValue}
+use Rattle.board.specs.Answers.{no_information, information_of, ReadsByValue}
 
-no_information_lem : (r : Reading) → shows_data r ≡ false → informationOf r ≡ noInformation
-unfolding shows_data informationOf
+no_information_lem : (r : Reading) → shows_data r ≡ false → information_of r ≡ no_information
+unfolding shows_data information_of
 no_information_lem Nothing none = refl
 no_information_lem (Error code) none = refl
 no_information_lem Done none = refl
@@ -24,7 +24,7 @@ no_information_lem (System information) none = absurd (false≢true (sym none))
 
 pub error_shows_c_nothing : (q : Request) (answer blocks locks : List ℕ) (r : Shown) (blocks' locks' : List ℕ)
     → ReadsByValue (reading q answer blocks locks) r blocks' locks' → shows_data (reading q answer blocks locks).reading ≡ false
-    → (r.information ≡ noInformation) × (blocks' ≡ blocks) × (locks' ≡ locks)
+    → (r.information ≡ no_information) × (blocks' ≡ blocks) × (locks' ≡ locks)
 error_shows_c_nothing q answer blocks locks r blocks' locks' p none =
     let o = reading q answer blocks locks in
     let told : Told = record { number = o.number; reading = o.reading } in

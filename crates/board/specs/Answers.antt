@@ -26,24 +26,24 @@ value_of (System information) = 0
 value_of (Error code) = code
 
 -- minus the number of the refusal, or both in one number
-unfoldable pub readAnswer : ℕ → Reading → ℤ
-readAnswer number reading = cond (eqb number 0) (pos (65536 * kind_of reading + value_of reading)) (refused number)
+unfoldable pub read_answer : ℕ → Reading → ℤ
+read_answer number reading = cond (eqb number 0) (pos (65536 * kind_of reading + value_of reading)) (refused number)
 
 -- the system information, and zeros where there is none: "An error answer never shows data."
-unfoldable pub noInformation : Information
-noInformation = record { uid = 0; blocks = 0; size = 0; dsfid = 0; afi = 0; ic_reference = 0; flags = 0 }
+unfoldable pub no_information : Information
+no_information = record { uid = 0; blocks = 0; size = 0; dsfid = 0; afi = 0; ic_reference = 0; flags = 0 }
 
-unfoldable pub informationOf : Reading → Information
-informationOf Nothing = noInformation
-informationOf Done = noInformation
-informationOf (Blocks n) = noInformation
-informationOf (Locks n) = noInformation
-informationOf (System information) = information
-informationOf (Error code) = noInformation
+unfoldable pub information_of : Reading → Information
+information_of Nothing = no_information
+information_of Done = no_information
+information_of (Blocks n) = no_information
+information_of (Locks n) = no_information
+information_of (System information) = information
+information_of (Error code) = no_information
 
 -- what the call promises: what is returned, and every byte of both buffers
 pub record ReadsByValue (o : Outcome) (r : Shown) (blocks locks : List ℕ) : Type 0 where
-  pub answer : r.answer ≡ readAnswer o.number o.reading
-  pub information : r.information ≡ informationOf o.reading
+  pub answer : r.answer ≡ read_answer o.number o.reading
+  pub information : r.information ≡ information_of o.reading
   pub blocks_left : blocks ≡ o.blocks
   pub locks_left : locks ≡ o.locks

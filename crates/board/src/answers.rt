@@ -2,7 +2,7 @@
 ghost use Rattle.std.specs.Prelude.{◌≡◌};
 ghost use Rattle.reader.specs.Request.{Makes};
 ghost use Rattle.reader.specs.Reading.{reading};
-ghost use Rattle.board.specs.Answers.{kind_of, value_of, noInformation, informationOf, readAnswer, ReadsByValue};
+ghost use Rattle.board.specs.Answers.{kind_of, value_of, no_information, information_of, read_answer, ReadsByValue};
 
 use crate::in_place::minus;
 use reader::{Information, Reading, Request};
@@ -42,7 +42,7 @@ fn value_of(reading: Reading) -> u32
 }
 
 fn no_information() -> Information
-    ensures { result ≡ noInformation }
+    ensures { result ≡ no_information }
 {
     Information {
         uid: 0,
@@ -56,7 +56,7 @@ fn no_information() -> Information
 }
 
 fn information_of(reading: Reading) -> Information
-    ensures { result ≡ informationOf reading }
+    ensures { result ≡ information_of reading }
 {
     match reading {
         Reading::Nothing => no_information(),
@@ -69,7 +69,7 @@ fn information_of(reading: Reading) -> Information
 }
 
 fn back_of(number: u8, reading: Reading) -> i64
-    ensures { result ≡ readAnswer number reading }
+    ensures { result ≡ read_answer number reading }
 {
     if number != 0 {
         return minus(number);

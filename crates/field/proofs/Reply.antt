@@ -14,7 +14,7 @@ use Rattle.frames.proofs.Fields.{length_field_bytes, field_of_bytes}
 use Rattle.slots.specs.Fits.{fits_slot}
 use Rattle.card.specs.declared.Card.{Card}
 use Rattle.play.specs.Answer.{presence}
-use Rattle.play.proofs.Answers.{length-presence}
+use Rattle.play.proofs.Answers.{length_presence}
 use Rattle.walk.specs.declared.Walk.{Walk}
 use Rattle.walk.specs.Record.{levels_of, mask_length, whole_mask}
 use Rattle.walk.specs.Hear.{uid_of, starts_e0, is_clean}
@@ -29,7 +29,7 @@ message_bytes c = refl
 
 pub length_message : (c : Card) → length (message c) ≡ 12
 unfolding message
-length_message c = length_sealed (0x00 ∷ presence c) ∙ omega (arith, length-presence c)
+length_message c = length_sealed (0x00 ∷ presence c) ∙ omega (arith, length_presence c)
 
 pub message_uid : (c : Card) → c.uid < 2 ^ 64 → uid_of (message c) ≡ c.uid
 unfolding uid_of field_at message sealed presence

@@ -13,7 +13,7 @@ use Rattle.card.specs.declared.Reply.TheVariants.{Present}
 use Rattle.card.specs.Inventory.{present}
 use Rattle.play.specs.Answer.{presence, reply_bytes}
 use Rattle.play.specs.Events.{length_told, answered, replied}
-use Rattle.play.proofs.Answers.{length-presence}
+use Rattle.play.proofs.Answers.{length_presence}
 use Rattle.play.proofs.EventWays.{told-length, told-silence, answered-bytes, answered-silence}
 use Rattle.walk.specs.declared.Walk.{Walk}
 use Rattle.walk.specs.Record.{whole_mask}
@@ -28,7 +28,7 @@ module _ (c : Card) (memory locks found : List ℕ) where
   -- the message stands at the start of the room
   over-message : over (message c) found ≡ answered (reply_bytes c memory locks Present) found
   unfolding message reply_bytes
-  over-message = answered-bytes (0x00 ∷ presence c) found (λ z. omega (arith, length-presence c))
+  over-message = answered-bytes (0x00 ∷ presence c) found (λ z. omega (arith, length_presence c))
 
   room-kept : (b : Bool) → 12 ≤ length found → length (answered (reply_bytes c memory locks (present b)) found) ≡ length found
   unfolding present reply_bytes
@@ -37,7 +37,7 @@ module _ (c : Card) (memory locks found : List ℕ) where
 
   said-length : (b : Bool) → length_told (reply_bytes c memory locks (present b)) ≡ cond b 12 0
   unfolding present reply_bytes
-  said-length true = sym (told-length (0x00 ∷ presence c) found (λ z. omega (arith, length-presence c))) ∙ omega (arith, length-presence c)
+  said-length true = sym (told-length (0x00 ∷ presence c) found (λ z. omega (arith, length_presence c))) ∙ omega (arith, length_presence c)
   said-length false = sym (told-silence [] found refl)
 
   said-bytes : take 12 (answered (reply_bytes c memory locks Present) found) ≡ message c

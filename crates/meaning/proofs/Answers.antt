@@ -39,12 +39,12 @@ answers_with air c true = go (eqb air.answers 0)
     go true = refl
     go false = refl
 
-row-answers : (w : Walk) (air : Air) (ts₀ ts : List Tag) → Both (Turned w) ts₀ ts
+row_answers : (w : Walk) (air : Air) (ts₀ ts : List Tag) → Both (Turned w) ts₀ ts
     → (row_air w air (cards ts)).answers ≡ answered air.answers (callers w.family w ts₀)
 unfolding row_air answered cards callers Turned stepped
-row-answers w air [] [] none = refl
-row-answers w air (t₀ ∷ ts₀) (t ∷ ts) (more h hs) =
-    row-answers w (air_with air (turn_of w t.card).card (turn_of w t.card).reply) ts₀ ts hs
+row_answers w air [] [] none = refl
+row_answers w air (t₀ ∷ ts₀) (t ∷ ts) (more h hs) =
+    row_answers w (air_with air (turn_of w t.card).card (turn_of w t.card).reply) ts₀ ts hs
     ∙ ap (λ (u : Turn). answered (air_with air u.card u.reply).answers (callers w.family w ts₀)) h
     ∙ ap (λ (a : ℕ). answered a (callers w.family w ts₀))
     (answers_with air (in_step w.family w.level (whole_mask w) w.slot t₀.card) (calls w.family w t₀.card))
@@ -56,28 +56,28 @@ row-answers w air (t₀ ∷ ts₀) (t ∷ ts) (more h hs) =
     go false = refl
 
 -- two or more stay two or more
-many-answered : (cs : List Card) → answered 2 cs ≡ 2
+many_answered : (cs : List Card) → answered 2 cs ≡ 2
 unfolding answered
-many-answered [] = refl
-many-answered (c ∷ cs) = many-answered cs
+many_answered [] = refl
+many_answered (c ∷ cs) = many_answered cs
 
-sign-answered : (air : Air) (cs : List Card) → air.answers ≡ answered 0 cs → sign air ≡ sign_for (length (uids cs))
+sign_answered : (air : Air) (cs : List Card) → air.answers ≡ answered 0 cs → sign air ≡ sign_for (length (uids cs))
 unfolding sign sign_for answered uids
-sign-answered air [] e = rw e
-sign-answered air (c ∷ []) e = rw e
-sign-answered air (c ∷ d ∷ cs) e =
-    rw (e, many-answered cs, ne_eqb (suc (suc (length (uids cs)))) 0 (λ z. absurd (omega arith)), ne_eqb (suc (suc (length (uids cs)))) 1 (λ z. absurd (omega arith)))
+sign_answered air [] e = rw e
+sign_answered air (c ∷ []) e = rw e
+sign_answered air (c ∷ d ∷ cs) e =
+    rw (e, many_answered cs, ne_eqb (suc (suc (length (uids cs)))) 0 (λ z. absurd (omega arith)), ne_eqb (suc (suc (length (uids cs)))) 1 (λ z. absurd (omega arith)))
     refl
 
 -- the cards that are called
-pub sign-callers : (w : Walk) (ts₀ ts : List Tag) → Both (Turned w) ts₀ ts
+pub sign_callers : (w : Walk) (ts₀ ts : List Tag) → Both (Turned w) ts₀ ts
     → sign (row_air w still_air (cards ts)) ≡ sign_for (length (uids (callers w.family w ts₀)))
 unfolding still_air
-sign-callers w ts₀ ts hears = sign-answered (row_air w still_air (cards ts)) (callers w.family w ts₀) (row-answers w still_air ts₀ ts hears)
+sign_callers w ts₀ ts hears = sign_answered (row_air w still_air (cards ts)) (callers w.family w ts₀) (row_answers w still_air ts₀ ts hears)
 
 -- the same sign for the slot that UIDs bring
-pub sign-slot : (us : List ℕ) → sign_of (slot_of us) ≡ sign_for (length us)
+pub sign_slot : (us : List ℕ) → sign_of (slot_of us) ≡ sign_for (length us)
 unfolding sign_of sign_for slot_of
-sign-slot [] = refl
-sign-slot (u ∷ []) = refl
-sign-slot (u ∷ v ∷ us) = rw (ne_eqb (suc (suc (length us))) 0 (λ z. absurd (omega arith)), ne_eqb (suc (suc (length us))) 1 (λ z. absurd (omega arith))) refl
+sign_slot [] = refl
+sign_slot (u ∷ []) = refl
+sign_slot (u ∷ v ∷ us) = rw (ne_eqb (suc (suc (length us))) 0 (λ z. absurd (omega arith)), ne_eqb (suc (suc (length us))) 1 (λ z. absurd (omega arith))) refl

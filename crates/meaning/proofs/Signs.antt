@@ -30,7 +30,7 @@ use Rattle.meaning.specs.Signs.{sign_of, sign_for, air_at, called_at, Signs, Sig
 use Rattle.meaning.proofs.RowTurned.{Turned, row_turned, row_judged}
 use Rattle.meaning.proofs.SlotsAlike.{bench_of, starts_own}
 use Rattle.meaning.proofs.Bench.{tags_of, tags_obey, tags_answer, tags_suit, fresh_field, bench_is_a_field}
-use Rattle.meaning.proofs.Answers.{sign-callers, sign-slot}
+use Rattle.meaning.proofs.Answers.{sign_callers, sign_slot}
 
 -- ---- a slot of a field that is heard
 
@@ -38,7 +38,7 @@ pub sign_called : (w : Walk) (tags ts : List Tag) → is_accepted w ≡ true →
     → sign (row_air w still_air (cards ts)) ≡ sign_for (length (called (answering w.family tags) w))
 sign_called w tags ts accepted turned =
     let facts : Accepted w = accepted_of_is_accepted w accepted in
-    sign-callers w tags ts turned ∙ ap (λ (us : List ℕ). sign_for (length us)) (sym (called_callers w.family w tags facts.mask (omega (arith, facts.slot))))
+    sign_callers w tags ts turned ∙ ap (λ (us : List ℕ). sign_for (length us)) (sym (called_callers w.family w tags facts.mask (omega (arith, facts.slot))))
 
 slot_signs : (tags : List Tag) (p : Play) → AllObey tags → Starts (length p.walk.marks) (answering p.walk.family tags)
     → is_accepted p.walk ≡ true → p.walk.level < 16 → is_running p.walk ≡ true
@@ -49,7 +49,7 @@ slot_signs tags p obey starts accepted level running before =
     let turned : Both (Turned w) tags p.tags = row_turned w tags p.tags obey accepted level running before in
     let us : List ℕ = called (answering w.family tags) w in
     let counts : sign (row_air w still_air (cards p.tags)) ≡ sign_for (length us) = sign_called w tags p.tags accepted turned in
-    record { walk = counts ∙ sym (sign-slot us) ∙ ap sign_of (sym (row_judged w tags p.tags obey starts accepted turned)); uids = counts }
+    record { walk = counts ∙ sym (sign_slot us) ∙ ap sign_of (sym (row_judged w tags p.tags obey starts accepted turned)); uids = counts }
 
 -- ---- after any number of slots
 

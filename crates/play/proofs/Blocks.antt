@@ -14,7 +14,7 @@ use Rattle.lent.proofs.Over.{sets_placed, placed_none, placed_placed}
 use Rattle.card.specs.Reply.{lead}
 use Rattle.play.specs.Answer.{block_of, block_read, blocks_read}
 use Rattle.play.proofs.Copy.{length_part}
-use Rattle.play.proofs.Answers.{first-placed}
+use Rattle.play.proofs.Answers.{first_placed}
 use Rattle.play.proofs.Products.{block_within}
 
 -- a lock byte is asked for
@@ -104,4 +104,4 @@ pub puts_blocks : {memory locks : List ℕ} {size : ℕ} {option : Bool} {first 
 puts_blocks {memory} {locks} {size} {option} {first} {n} e so stored h =
     let s : List ℕ = blocks_read memory locks size option first n in
     let all : length s ≡ n * (size + lead option) = length_blocks memory locks size option first n stored in
-    record { count = omega (arith, so.place); leaves = so.leaves ∙ first-placed 0x00 s e (omega arith) }
+    record { count = omega (arith, so.place); leaves = so.leaves ∙ first_placed 0x00 s e (omega arith) }

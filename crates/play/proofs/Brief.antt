@@ -15,7 +15,7 @@ use Rattle.card.specs.declared.Reply.TheVariants.{Silence, Error, Done, Present,
 use Rattle.play.specs.Fits.{reply_fits}
 use Rattle.play.specs.Steps.{is_brief}
 use Rattle.play.specs.Answer.{reply_bytes}
-use Rattle.play.proofs.Answers.{length-presence}
+use Rattle.play.proofs.Answers.{length_presence}
 
 not_brief : false ≡ true → ⊥
 not_brief e = let z : ◌≡◌ {A = ℕ} 0 1 = cc in omega arith
@@ -46,7 +46,7 @@ unfolding is_brief reply_bytes
 brief_most c Silence h = omega arith
 brief_most c (Error code) h = omega arith
 brief_most c Done h = omega arith
-brief_most c Present h = omega (arith, length-presence c)
+brief_most c Present h = omega (arith, length_presence c)
 brief_most c (Blocks first n option) h = absurd (not_brief h)
 brief_most c (Status first n) h = absurd (not_brief h)
 brief_most c Information h = absurd (not_brief h)

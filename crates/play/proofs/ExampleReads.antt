@@ -22,7 +22,7 @@ use Rattle.play.specs.Answer.{block_of, block_read, blocks_read, information, re
 use Rattle.play.specs.Events.{replied, frame_event}
 use Rattle.play.specs.Examples.{Listens, speech}
 use Rattle.play.proofs.Copy.{length_part}
-use Rattle.play.proofs.Answers.{length-information}
+use Rattle.play.proofs.Answers.{length_information}
 use Rattle.play.proofs.EventWays.{frame_served, told-length, answered-bytes}
 use Rattle.play.proofs.ReadyFor.{ready_of}
 
@@ -76,7 +76,7 @@ module _ (c : Card) (memory locks found : List ℕ) (listens : Listens c memory 
 
     information-long : length (reply_bytes (cleared c) memory locks Information) ≡ 15
     unfolding reply_bytes
-    information-long = omega (arith, length-information (cleared c))
+    information-long = omega (arith, length_information (cleared c))
 
     blocks-bytes : (option : Bool) → reply_bytes (cleared c) memory locks (Blocks 31 1 option) ≡ 0x00 ∷ block_read memory locks 4 option 31
     unfolding reply_bytes blocks_read cleared remade

@@ -28,7 +28,7 @@ use Rattle.commands.proofs.Rules.{inventory_frame}
 use Rattle.play.specs.Answer.{presence, reply_bytes}
 use Rattle.play.specs.Effects.{memory_after, locks_after}
 use Rattle.play.specs.Events.{length_told, answered, Outcome, replied, event, carried_out, frame_event}
-use Rattle.play.proofs.Answers.{length-presence}
+use Rattle.play.proofs.Answers.{length_presence}
 use Rattle.play.specs.Examples.{silence, speech, presents, in_slot, inventory}
 
 -- eight bytes of mask at most
@@ -94,5 +94,5 @@ silence_served c memory locks found = refl
 
 pub presents_served : (c : Card) (memory locks found : List ℕ) (b : Bool) → replied c memory locks (present b) found ≡ presents b c memory locks found
 unfolding replied reply_bytes present presence length_told answered presents speech silence
-presents_served c memory locks found true = rw (length-presence c)
+presents_served c memory locks found true = rw (length_presence c)
 presents_served c memory locks found false = refl

@@ -21,7 +21,7 @@ use Rattle.play.specs.Steps.{is_brief, Ready, PutsReply}
 use Rattle.play.specs.Answer.{reply_bytes, locks_read}
 use Rattle.play.proofs.Within.{blocks_within, status_within}
 use Rattle.play.proofs.Copy.{length_part}
-use Rattle.play.proofs.Answers.{length-presence, length-information}
+use Rattle.play.proofs.Answers.{length_presence, length_information}
 use Rattle.play.proofs.Blocks.{length_blocks}
 use Rattle.play.proofs.Brief.{brief_most}
 
@@ -93,7 +93,7 @@ unfolding reply_bytes reply_length locks_read
 length_reply c memory locks Silence stored marks fits = omega arith
 length_reply c memory locks (Error code) stored marks fits = omega arith
 length_reply c memory locks Done stored marks fits = omega arith
-length_reply c memory locks Present stored marks fits = omega (arith, length-presence c)
+length_reply c memory locks Present stored marks fits = omega (arith, length_presence c)
 length_reply c memory locks (Blocks first n option) stored marks fits =
     let within : first + n ≤ c.blocks = blocks_within c {option = option} refl fits in
     let held : (first + n) * c.size ≤ c.blocks * c.size = mul-le-mul_right c.size within in
@@ -101,7 +101,7 @@ length_reply c memory locks (Blocks first n option) stored marks fits =
 length_reply c memory locks (Status first n) stored marks fits =
     let within : first + n ≤ c.blocks = status_within c refl fits in
     omega (arith, length_part first n locks (omega arith))
-length_reply c memory locks Information stored marks fits = omega (arith, length-information c)
+length_reply c memory locks Information stored marks fits = omega (arith, length_information c)
 
 -- the check has room behind the answer
 pub reply_room : (c : Card) (memory locks : List ℕ) (reply : Reply) (room : ℕ) → Ready c (length memory) (length locks) room

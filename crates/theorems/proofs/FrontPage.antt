@@ -77,7 +77,7 @@ use Rattle.reader.proofs.Errors.{error-shows-nothing}
 use Rattle.reader.proofs.Exchange.{exchange}
 use Rattle.reader.proofs.Written.{written_then_read}
 use Rattle.board.specs.declared.answers.Shown.{Shown}
-use Rattle.board.specs.Answers.{noInformation, ReadsByValue}
+use Rattle.board.specs.Answers.{no_information, ReadsByValue}
 use Rattle.board.proofs.ErrorShown.{error_shows_c_nothing}
 use Rattle.walk.specs.declared.Walk.{Walk}
 use Rattle.walk.specs.declared.Kind.{Kind}
@@ -302,7 +302,7 @@ an_error_shows_nothing = error-shows-nothing
 -- From C: where no data are read, of an error or of bytes that are refused, the information is all zeros too.
 an_error_shows_c_nothing : (q : Request) (answer blocks locks : List ℕ) (r : Shown) (blocksLeft locksLeft : List ℕ)
     → ReadsByValue (reading q answer blocks locks) r blocksLeft locksLeft → shows_data (reading q answer blocks locks).reading ≡ false
-    → (r.information ≡ noInformation) × (blocksLeft ≡ blocks) × (locksLeft ≡ locks)
+    → (r.information ≡ no_information) × (blocksLeft ≡ blocks) × (locksLeft ≡ locks)
 an_error_shows_c_nothing = error_shows_c_nothing
 
 -- Where 7 and 8 do not refuse, bytes are read exactly if they are 01 and a code, sealed, or 00 and a part, sealed, of the length that the request earned, for 2B beginning

@@ -1,6 +1,6 @@
 -- `information_of` keeps its promise: the information where it was read, else none. Assumes nothing.
 use borrow.Author.Rules.{rules}
-use Rattle.board.specs.Answers.{informationOf}
+use Rattle.board.specs.Answers.{information_of}
 use Rattle.board.proofs.answers.information_of.Statement.{statement}
 use Rattle.board.proofs.answers.information_of.Tie as tie
 
@@ -38,27 +38,27 @@ no-information-requires-5 : tie.Need-no-information-requires-5
 no-information-requires-5 c κs = search rules
 
 returns : tie.Need-returns
-unfolding informationOf
+unfolding information_of
 returns c = rw c.before.enum_told.given.1 c.no-information.ensures
 
 returns-2 : tie.Need-returns-2
-unfolding informationOf
+unfolding information_of
 returns-2 c = rw c.before.enum-told2.given.1 c.no-information2.ensures
 
 returns-3 : tie.Need-returns-3
-unfolding informationOf
+unfolding information_of
 returns-3 c = rw c.before.enum-told3.given.1 c.no-information3.ensures
 
 returns-4 : tie.Need-returns-4
-unfolding informationOf
+unfolding information_of
 returns-4 c = rw c.before.enum-told4.given.1 c.no-information4.ensures
 
 returns-5 : tie.Need-returns-5
-unfolding informationOf
+unfolding information_of
 returns-5 c = rw c.before.reading.given.1
 
 returns-6 : tie.Need-returns-6
-unfolding informationOf
+unfolding information_of
 returns-6 c = rw c.before.enum-told5.given.1 c.no-information5.ensures
 
 pub information-of-spec : {M : Type 1} → statement M

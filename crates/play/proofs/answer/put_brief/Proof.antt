@@ -4,7 +4,7 @@ use native.Mathlib.Omega.{arith}
 use mathlib.Core.List.{[]}
 use Rattle.play.proofs.Room.{brief_put}
 use Rattle.play.proofs.Brief.{brief_silence}
-use Rattle.play.proofs.Answers.{puts-sets}
+use Rattle.play.proofs.Answers.{puts_sets}
 use Rattle.play.specs.Answer.{reply_bytes}
 use Rattle.play.proofs.answer.put_brief.Statement.{statement}
 use Rattle.play.proofs.answer.put_brief.Tie as tie
@@ -66,7 +66,7 @@ returns-4 c =
     let args = c.before.before.args in
     let brief = c.before.before.requires.0 in
     let silent = brief_silence args.reply c.match.keys4 brief in
-    brief_put args.card args.answer.now args.reply brief c.before.before.requires.1 (rw silent (puts-sets [] args.answer.now (omega arith)))
+    brief_put args.card args.answer.now args.reply brief c.before.before.requires.1 (rw silent (puts_sets [] args.answer.now (omega arith)))
 
 pub put-brief-spec : {M : Type 1} → statement M
 put-brief-spec =

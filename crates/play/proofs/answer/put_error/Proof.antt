@@ -1,7 +1,7 @@
 -- `play::answer::put_error` meets its contract: its two stores put two bytes. Assumes nothing.
 use borrow.Author.Rules.{rules}
 use mathlib.Core.List.{[], ◌∷◌}
-use Rattle.play.proofs.Answers.{puts-sets}
+use Rattle.play.proofs.Answers.{puts_sets}
 use Rattle.play.proofs.answer.put_error.Statement.{statement}
 use Rattle.play.proofs.answer.put_error.Tie as tie
 
@@ -15,7 +15,7 @@ same_length : tie.Need-same-length
 same_length c = search rules
 
 returns : tie.Need-returns
-returns c = puts-sets (0x01 ∷ c.args.code ∷ []) _ c.requires
+returns c = puts_sets (0x01 ∷ c.args.code ∷ []) _ c.requires
 
 pub put-error-spec : {M : Type 1} → statement M
 put-error-spec = tie.close (tie.spec slice-write-answer slice-write-answer-2 same_length returns)

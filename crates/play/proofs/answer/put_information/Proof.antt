@@ -4,7 +4,7 @@ use borrow.Author.Rules.{rules}
 use native.Mathlib.Omega.{arith}
 use lib.ListN.{length-set}
 use Rattle.card.proofs.Accepted.{shape_of}
-use Rattle.play.proofs.Answers.{puts-information}
+use Rattle.play.proofs.Answers.{puts_information}
 use Rattle.play.proofs.answer.put_information.Statement.{statement}
 use Rattle.play.proofs.answer.put_information.Tie as tie
 
@@ -60,7 +60,7 @@ returns c =
     let args = c.before.before.before.before.before.before.before.args in
     let put-field = c.before.before.before.before.put-field in
     let asked = c.before.before.before.before.before.before.before.requires in
-    puts-information args.card args.answer.now put-field.ensures asked.1
+    puts_information args.card args.answer.now put-field.ensures asked.1
 
 pub put-information-spec : {M : Type 1} → statement M
 put-information-spec =

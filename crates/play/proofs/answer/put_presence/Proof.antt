@@ -2,7 +2,7 @@
 use borrow.Author.Rules.{rules}
 use native.Mathlib.Omega.{arith}
 use lib.ListN.{length-set}
-use Rattle.play.proofs.Answers.{puts-presence}
+use Rattle.play.proofs.Answers.{puts_presence}
 use Rattle.play.proofs.answer.put_presence.Statement.{statement}
 use Rattle.play.proofs.answer.put_presence.Tie as tie
 
@@ -23,7 +23,7 @@ returns c =
     let args = c.before.before.before.before.before.args in
     let put-field = c.before.before.put-field in
     let asked = c.before.before.before.before.before.requires in
-    puts-presence args.card args.answer.now put-field.ensures asked
+    puts_presence args.card args.answer.now put-field.ensures asked
 
 pub put-presence-spec : {M : Type 1} → statement M
 put-presence-spec =
