@@ -1,4 +1,6 @@
 // The bench program: UIDs, a line each, from standard input or a file; the walk's verdict, rounds and list on standard output.
+#![tactic(auto)]
+
 use libc::STDOUT_FILENO;
 
 // Prints what the bench prints of an input.

@@ -9,7 +9,7 @@ use reader::{Information, Reading, Request};
 
 // What C is told of an answer: minus the number of the refusal, else kind and value in one number; and what the tag says of itself, or zeros.
 #[repr(C)]
-#[derive(Drop)]
+#[derive(Clone, Copy)]
 pub struct Shown {
     pub answer: i64,
     pub information: Information,

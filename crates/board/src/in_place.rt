@@ -12,7 +12,7 @@ ghost use Rattle.board.specs.Steps.{told_of, Tells};
 use walk::{Asked, Heard, Kind, Send, Walk};
 
 // The next walk, and the number that C is told.
-#[derive(Drop)]
+#[derive(Clone, Copy)]
 pub(crate) struct Told {
     pub walk: Walk,
     pub answer: i64,

@@ -1,6 +1,8 @@
 // The functions that the rack board's C firmware calls, each a thin shell with the promise of the one it calls; the card's over the bytes of
 // its record.
 // include/espenknoten.h declares them.
+#![tactic(auto)]
+
 pub mod answers;
 pub mod in_place;
 pub mod shared;

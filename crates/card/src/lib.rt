@@ -1,11 +1,13 @@
 // The card's record and what needs no memory: what an inventory request, a slot mark and power off make of a card.
+#![tactic(auto)]
+
 mod frame;
 mod inventory;
 mod mark;
 mod record;
 
 // Ready answers, Quiet is silent unless addressed, Selected answers to Select.
-#[derive(Drop)]
+#[derive(Clone, Copy)]
 pub enum Mode {
     Ready,
     Quiet,
@@ -13,21 +15,21 @@ pub enum Mode {
 }
 
 // A slot sequence: its slot, the length of its mask in bits, and the mask.
-#[derive(Drop)]
+#[derive(Clone, Copy)]
 pub enum Sequence {
     Idle,
     Running(u8, u8, u64),
 }
 
 // An answer that waits for a slot mark.
-#[derive(Drop)]
+#[derive(Clone, Copy)]
 pub enum Held {
     Free,
     Success,
     Code(u8),
 }
 
-#[derive(Drop)]
+#[derive(Clone, Copy)]
 pub struct Card {
     pub blocks: u32,
     pub size: u32,
@@ -43,7 +45,7 @@ pub struct Card {
 }
 
 // What a card answers. Blocks and Status hold the first block and how many; Blocks also whether each comes with its lock byte.
-#[derive(Drop)]
+#[derive(Clone, Copy)]
 pub enum Reply {
     Silence,
     Error(u8),
@@ -55,7 +57,7 @@ pub enum Reply {
 }
 
 // What a frame or a mark makes of a record, and what is answered.
-#[derive(Drop)]
+#[derive(Clone, Copy)]
 pub struct Turn {
     pub card: Card,
     pub reply: Reply,

@@ -1,1 +1,2 @@
 // Demand 3 on the coil: definitions and laws, no function.
+#![tactic(auto)]

@@ -1,4 +1,6 @@
 // What any frame makes of a card, of its memory and of its lock bytes: to whom a request goes, its faults in order, the table of commands.
+#![tactic(auto)]
+
 ghost use Rattle.std.specs.Prelude.{◌≡◌};
 ghost use Rattle.commands.specs.Frame.{decided};
 
@@ -11,7 +13,7 @@ use card::{Card, Reply};
 use frames::{Flags, byte_at};
 
 // What a frame does to memory and locks: nothing; into so many blocks from the first on the data at a place of the frame; a block locked.
-#[derive(Drop)]
+#[derive(Clone, Copy)]
 pub enum Effect {
     Leave,
     Write(u32, u32, u32),
@@ -19,7 +21,7 @@ pub enum Effect {
 }
 
 // What a frame makes of a record, of memory and locks, and what is answered.
-#[derive(Drop)]
+#[derive(Clone, Copy)]
 pub struct Deed {
     pub card: Card,
     pub effect: Effect,

@@ -319,7 +319,7 @@ fn goes_on(select: bool, mode: Mode) -> bool
 }
 
 // For whom a frame is.
-#[derive(Drop)]
+#[derive(Clone, Copy)]
 enum Address {
     Nobody,
     Another,

@@ -6,7 +6,7 @@ use crate::{Deed, Effect};
 use card::{Card, Held, Mode, Reply};
 
 // What changes in the record: the mode, the AFI or the DSFID with its lock.
-#[derive(Drop)]
+#[derive(Clone, Copy)]
 pub(crate) enum Change {
     Nothing,
     InMode(Mode),
@@ -15,7 +15,7 @@ pub(crate) enum Change {
 }
 
 // A change, an effect, an answer, and whether the answer is held.
-#[derive(Drop)]
+#[derive(Clone, Copy)]
 pub(crate) struct Verdict {
     pub(crate) change: Change,
     pub(crate) effect: Effect,

@@ -1,5 +1,7 @@
 // The check of ISO/IEC 13239, a byte at a time by a table of 256 entries. Annex C of ISO/IEC 15693-3 works it out bit by bit: so does specs/Check.antt, the
 // definition that the promises name. The entry at a place is what eight of the annex's steps make of a register that holds the place.
+#![tactic(auto)]
+
 ghost use Rattle.std.specs.Prelude.{◌≡◌, ◌+◌, ◌*◌};
 ghost use Rattle.crc.specs.Check.{taken, check_of, is_check, is_sealed};
 

@@ -1,4 +1,6 @@
 // Bytes as text: upper-case hexadecimal digits, rows of pairs of them, each pair after a space, and numbers in decimal.
+#![tactic(auto)]
+
 ghost use Rattle.std.specs.Prelude.{◌≡◌, ◌+◌, ◌*◌, ◌<◌, ◌≤◌, length, get_or};
 ghost use Rattle.lent.specs.Lent.{placed};
 ghost use Rattle.digits.specs.Digits.{digit_of, digit, hex_digits, fits, has_form, number_at};

@@ -1,4 +1,6 @@
 // The draw program: UIDs, a line each, from standard input or a file; the walk drawn, and what the bench prints of it, on standard output.
+#![tactic(auto)]
+
 use libc::STDOUT_FILENO;
 
 // Draws the walk over an input, and prints what the bench prints of it.

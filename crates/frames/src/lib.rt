@@ -1,4 +1,6 @@
 // What frames are made of: flags, fields of several bytes, and the check that seals them.
+#![tactic(auto)]
+
 ghost use Rattle.std.specs.Prelude.{◌≡◌, [], ◌∷◌, ◌+◌, ◌<◌, ◌≤◌, length, get_or};
 ghost use Rattle.frames.specs.Flags.{flags_of};
 ghost use Rattle.lent.specs.Lent.{placed};
@@ -20,7 +22,7 @@ pub const LONGEST_ANSWER: usize = 8451;
 const ROOM_SHORT: i64 = -8;
 
 // The eight flags of a frame's first byte, b1 the lowest.
-#[derive(Drop)]
+#[derive(Clone, Copy)]
 pub struct Flags {
     pub b1: bool,
     pub b2: bool,

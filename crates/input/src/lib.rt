@@ -1,4 +1,6 @@
 // What a program reads: standard input, or the file that its argument names. A read that fails is told, and is not the end of the input.
+#![tactic(auto)]
+
 ghost use Rattle.std.specs.Prelude.{cond, ◌≡◌};
 ghost use Rattle.io.specs.Counts.{IsPrefixLen};
 ghost use Rattle.input.specs.Input.{Opened};
@@ -6,7 +8,7 @@ ghost use Rattle.input.specs.Input.{Opened};
 use libc::{STDERR_FILENO, STDIN_FILENO};
 
 // How many bytes came, none at the end of the input; and whether a read failed.
-#[derive(Drop)]
+#[derive(Clone, Copy)]
 pub struct Came {
     pub count: usize,
     pub failed: bool,

@@ -1,4 +1,6 @@
 // The lines of an input: a UID each, read byte by byte up to the first wrong one.
+#![tactic(auto)]
+
 ghost use Rattle.std.specs.Prelude.{◌≡◌, ◌≤◌, ◌<◌};
 ghost use Rattle.lines.specs.Input.{begins_e0};
 ghost use Rattle.lines.specs.Lines.{fresh_lines, wrong, stepped, read_from};
@@ -6,7 +8,7 @@ ghost use Rattle.lines.specs.Lines.{fresh_lines, wrong, stepped, read_from};
 use digits::digit_of;
 
 // The UIDs of the lines so far, how many bytes the line that has begun has, the number that they stand for, and the wrong line or 0.
-#[derive(Drop)]
+#[derive(Clone, Copy)]
 pub struct Lines {
     pub uids: [u64; 100],
     pub count: usize,

@@ -1,4 +1,6 @@
 // The three events of a card over its memory, its lock bytes and the room for its answer.
+#![tactic(auto)]
+
 mod answer;
 mod effects;
 pub mod events;
@@ -7,7 +9,7 @@ mod refusal;
 use card::Card;
 
 // What an event returns: the next record, the number of the refusal or 0, and the answer's length, 0 for silence.
-#[derive(Drop)]
+#[derive(Clone, Copy)]
 pub struct Served {
     pub card: Card,
     pub number: u8,

@@ -3,7 +3,7 @@ use frames::byte_at;
 
 // The byte that was taken, or that there is none: the input is over, or a read failed. The bytes of the piece from `at` to `end` are still to be
 // taken. Length is the line's.
-#[derive(Drop)]
+#[derive(Clone, Copy)]
 pub(crate) struct Reading {
     pub(crate) at: usize,
     pub(crate) end: usize,

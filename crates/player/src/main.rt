@@ -1,4 +1,6 @@
 // Plays one card from a script, and prints what the card says. docs/man/espenknoten-player.1 tells the script.
+#![tactic(auto)]
+
 mod ask;
 mod desk;
 mod lines;

@@ -7,7 +7,7 @@ use card::{Card, Held, Mode, Sequence};
 use frames::byte_at;
 
 // What a card is played: a frame of so many bytes, a slot mark, power off.
-#[derive(Drop)]
+#[derive(Clone, Copy)]
 pub(crate) enum Event {
     Frame(usize),
     Mark,
@@ -15,7 +15,7 @@ pub(crate) enum Event {
 }
 
 // What a line asks for once there is a card.
-#[derive(Drop)]
+#[derive(Clone, Copy)]
 enum Order {
     Play(Event),
     Ask,
@@ -25,7 +25,7 @@ enum Order {
 }
 
 // Where the script stands after a line. It is over after a wrong line and where reading or writing failed.
-#[derive(Drop)]
+#[derive(Clone, Copy)]
 pub(crate) enum Stage {
     NoCard,
     Card,
@@ -105,7 +105,7 @@ fn order_of(line: &[u8], frame: &mut [u8]) -> Order {
 }
 
 // The card, and where the script stands.
-#[derive(Drop)]
+#[derive(Clone, Copy)]
 pub(crate) struct Desk {
     pub(crate) card: Card,
     pub(crate) stage: Stage,

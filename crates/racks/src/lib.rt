@@ -1,1 +1,2 @@
 // Two racks over one list: definitions and theorems alone.
+#![tactic(auto)]

@@ -1,4 +1,6 @@
 // The reader's half of the block commands: the bytes of a request, and what its answer says.
+#![tactic(auto)]
+
 mod answers;
 mod made;
 mod owners;
@@ -7,7 +9,7 @@ mod owners;
 // else to the Selected one. Option 0 is not set, all else is. Size is that of the tag's blocks. First is the block of 20 to 23 and 2C, n the blocks
 // after it of 23 and 2C, and value the byte of 27 and 29; a command that has none of these does not look at them.
 #[repr(C)]
-#[derive(Drop)]
+#[derive(Clone, Copy)]
 pub struct Request {
     pub uid: u64,
     pub size: u16,
@@ -21,7 +23,7 @@ pub struct Request {
 
 // What a tag says of itself. Flags are those of the information, and tell which of its fields were there: 0F, all.
 #[repr(C)]
-#[derive(Drop)]
+#[derive(Clone, Copy)]
 pub struct Information {
     pub uid: u64,
     pub blocks: u16,
@@ -34,7 +36,7 @@ pub struct Information {
 
 // What was read: nothing, where the call was refused; an error's code; success with nothing more; so many bytes of blocks, with their lock bytes
 // where Option asked for them; so many lock bytes; or what the tag says of itself.
-#[derive(Drop)]
+#[derive(Clone, Copy)]
 pub enum Reading {
     Nothing,
     Error(u8),
@@ -45,7 +47,7 @@ pub enum Reading {
 }
 
 // What reading returns: the number of the refusal or 0, and what was read.
-#[derive(Drop)]
+#[derive(Clone, Copy)]
 pub struct Told {
     pub number: u8,
     pub reading: Reading,

@@ -22,7 +22,7 @@ fn mode_byte(mode: Mode) -> u8
 }
 
 // A slot sequence in the record's fields. With none, all four are 0.
-#[derive(Drop)]
+#[derive(Clone, Copy)]
 pub(crate) struct Fields {
     pub running: u8,
     pub slot: u8,

@@ -1,4 +1,6 @@
 // The card's record as forty lent bytes, for C: a card read from them, and one written back.
+#![tactic(auto)]
+
 mod bytes;
 mod meaning;
 

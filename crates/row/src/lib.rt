@@ -1,4 +1,6 @@
 // The bench's row of cards, and the slots of a walk over it.
+#![tactic(auto)]
+
 pub mod play;
 pub mod row;
 
@@ -6,7 +8,7 @@ use card::Card;
 use walk::{Send, Walk};
 
 // What is in the air of a slot: how many cards answer, 2 for two or more, and the first one's DSFID and UID.
-#[derive(Drop)]
+#[derive(Clone, Copy)]
 pub struct Air {
     pub answers: u8,
     pub dsfid: u8,
@@ -14,14 +16,14 @@ pub struct Air {
 }
 
 // The walk with its list.
-#[derive(Drop)]
+#[derive(Clone, Copy)]
 pub struct Desk {
     pub walk: Walk,
     pub list: [u64; 64],
 }
 
 // A row and a desk after a slot, and what was in the air.
-#[derive(Drop)]
+#[derive(Clone, Copy)]
 pub struct Slotted {
     pub row: [Card; 100],
     pub desk: Desk,
@@ -29,14 +31,14 @@ pub struct Slotted {
 }
 
 // What the walk sends in a slot, and the bytes of a request.
-#[derive(Drop)]
+#[derive(Clone, Copy)]
 struct Sent {
     send: Send,
     bytes: [u8; 14],
 }
 
 // A card after a slot, and what is then in the air.
-#[derive(Drop)]
+#[derive(Clone, Copy)]
 struct Listened {
     card: Card,
     air: Air,

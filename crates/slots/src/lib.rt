@@ -1,4 +1,6 @@
 // Which UIDs a mask and a slot call: said once, for the card that answers and for the reader that asks.
+#![tactic(auto)]
+
 ghost use Rattle.std.specs.Prelude.{◌≡◌, ◌%◌, ◌/◌, ◌^◌, ltb};
 ghost use Rattle.slots.specs.Fits.{mask_bytes, fits_mask, fits_slot};
 

@@ -1,4 +1,6 @@
 // The reader's inventory walk: which request a round sends, what each slot makes of the walk, and how it ends.
+#![tactic(auto)]
+
 mod ask;
 mod hear;
 mod marks;
@@ -16,7 +18,7 @@ const LAST_LEVEL: u8 = (LEVELS as u8) - 1;
 // slot s clashed and waits. The mask is two halves of 32 bits, since one number of 64 would make the record a multiple of eight bytes. Family 0 to
 // 255 is an AFI, all else none. Ending 0 is running, 1 complete, 2 twins, 3 full, all else overrun.
 #[repr(C)]
-#[derive(Drop)]
+#[derive(Clone, Copy)]
 pub struct Walk {
     pub marks: [u16; LEVELS],
     pub rounds: u16,
@@ -30,7 +32,7 @@ pub struct Walk {
 }
 
 // What the radio says of a slot. Bytes are looked at for the third only.
-#[derive(Drop)]
+#[derive(Clone, Copy)]
 pub enum Kind {
     Silence,
     Clash,
@@ -38,7 +40,7 @@ pub enum Kind {
 }
 
 // What the walk makes of it: a clean reply with its UID, or a clash.
-#[derive(Drop)]
+#[derive(Clone, Copy)]
 pub enum Slot {
     Silent,
     Clashed,
@@ -46,14 +48,14 @@ pub enum Slot {
 }
 
 // What hearing returns: the next walk, and the number of the refusal or 0.
-#[derive(Drop)]
+#[derive(Clone, Copy)]
 pub struct Heard {
     pub walk: Walk,
     pub number: u8,
 }
 
 // What to send: a request of so many bytes, a slot mark, or nothing after an ending.
-#[derive(Drop)]
+#[derive(Clone, Copy)]
 pub enum Send {
     Nothing,
     Mark,
@@ -61,7 +63,7 @@ pub enum Send {
 }
 
 // What asking returns: the walk, which stays, the number of the refusal or 0, and what to send.
-#[derive(Drop)]
+#[derive(Clone, Copy)]
 pub struct Asked {
     pub walk: Walk,
     pub number: u8,

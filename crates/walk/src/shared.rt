@@ -17,7 +17,7 @@ const FREE: u8 = 255;
 const MOST_ROWS: u8 = 40;
 
 // How many rows are free, how many rack 0 owns, and how many rack 1.
-#[derive(Drop)]
+#[derive(Clone, Copy)]
 pub(crate) struct Shares {
     pub free: u8,
     pub first: u8,

@@ -1,0 +1,23 @@
+-- `ek_card_frame` meets its contract: the record is read, the event settled (Ways.antt); the answer's length is at most its room (Told.antt).
+-- Assumes nothing.
+use borrow.Author.Rules.{sfits_of}
+use native.Mathlib.Omega.{arith}
+use mir.ValLaws.{to_z-of_z}
+use mir.Syntax.{w64}
+use Rattle.board.proofs.Told.{frame_told}
+use Rattle.board.proofs.Ways.{gives-frame}
+use Rattle.board.proofs.ek_card_frame.Goals as goal
+
+pub settle-requires : goal.settle-requires
+settle-requires c =
+    let frame = c.frame-served in
+    let owned = c.well_formed in
+    omega (arith, frame_told _ _ _ _ _ frame.ensures.told, owned.1.1.1.1.0)
+
+pub returns : goal.returns
+returns c =
+    let settle = c.settle in
+    let frame = c.frame-served in
+    let read = c.read-card in
+    rw (to_z-of_z w64 settle.result (sfits_of settle.type-inv))
+    (gives-frame _ _ _ _ _ (rw read.ensures at frame.ensures) settle.ensures)

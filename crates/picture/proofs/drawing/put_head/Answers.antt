@@ -1,0 +1,56 @@
+-- `picture::drawing::put_head` meets its contract: nothing, or a number, a tail and a space one after the other (Adding.antt). Assumes nothing.
+use mathlib.Core.Path.{◌≡◌}
+use native.Mathlib.Omega.{arith}
+use borrow.Author.Rules.{rules}
+use lib.ListN.{length}
+use Rattle.walk.specs.Marks.{levels}
+use Rattle.walk.proofs.Limits.{accepted_of_is_accepted}
+use Rattle.picture.proofs.Pieces.{length_tail}
+use Rattle.picture.proofs.Lengths.{within_accepted}
+use Rattle.picture.proofs.Adding.{head_none, head_puts}
+use Rattle.picture.proofs.drawing.put_head.Goals as goal
+
+pub returns-then-walk-ne0 : goal.returns-then-walk-ne0
+returns-then-walk-ne0 c = head_none _ _ _ c.if-walk-ne0.true
+
+pub round-number-requires : goal.round-number-requires
+unfolding levels
+round-number-requires c =
+    let start = c in
+    let long : length start.args.walk.marks ≡ levels = search (rules, start.well-formed) in
+    omega (arith, (within_accepted (accepted_of_is_accepted _ start.requires.0) (omega (arith, long))).rounds)
+
+pub put_tail-next-requires : goal.put_tail-next-requires
+unfolding levels
+put_tail-next-requires c =
+    let start = c in
+    let long : length start.args.walk.marks ≡ levels = search (rules, start.well-formed) in (
+      omega (arith, (within_accepted (accepted_of_is_accepted _ start.requires.0) (omega (arith, long))).level),
+      omega (arith, c.put-place.ensures.next, start.requires.1),
+    )
+
+pub put-requires : goal.put-requires
+unfolding levels
+put-requires c =
+    let start = c in
+    let walk = start.args.walk in
+    let long : length walk.marks ≡ levels = search (rules, start.well-formed) in
+    let level = (within_accepted (accepted_of_is_accepted _ start.requires.0) (omega (arith, long))).level in
+    let digits = length_tail walk.level c.mask.result (omega (arith, level)) in
+    omega (arith, digits, c.put_tail-next.ensures.next, c.put-place.ensures.next, start.requires.1)
+
+pub returns : goal.returns
+unfolding levels
+returns c =
+    let walk = c.args.walk in
+    let pre = c.requires in
+    let number = c.put-place.ensures in
+    let mask = c.mask in
+    let tail = c.put_tail-next.ensures in
+    let space = c.put.ensures in
+    let digits = length_tail walk.level mask.result
+    (let good = c.well_formed in
+    let long : length walk.marks ≡ levels = search (rules, good) in
+    omega (arith, (within_accepted (accepted_of_is_accepted _ pre.0) (omega (arith, long))).level)) in
+    head_puts walk c.if-walk-ne0.false c.round-number.ensures mask.ensures number tail space
+    (omega (arith, number.next, tail.next, space.next, pre.1))

@@ -1,0 +1,45 @@
+-- `picture::drawing::put_twins` meets its contract: nothing, or a word, a UID and the line's end one after the other (Adding.antt). Assumes nothing.
+use mathlib.Core.Path.{◌≡◌, refl}
+use native.Mathlib.Omega.{arith}
+use borrow.Author.Rules.{rules}
+use lib.ListN.{length}
+use Rattle.walk.specs.Marks.{levels}
+use Rattle.digits.proofs.Digits.{length_hex_digits}
+use Rattle.picture.specs.Drawn.{twins_uid}
+use Rattle.picture.proofs.Adding.{digits_above, twins_none, twins_puts}
+use Rattle.picture.proofs.drawing.put_twins.Goals as goal
+
+pub returns-then-walk-ne2 : goal.returns-then-walk-ne2
+returns-then-walk-ne2 c = twins_none _ _ _ c.if-walk-ne2.true
+
+pub overflow_add-uid : goal.overflow_add-uid
+unfolding levels twins_uid
+overflow_add-uid c =
+    let start = c in
+    let long : length start.args.desk.walk.marks ≡ levels = search (rules, start.well-formed) in
+    let above = digits_above start.args.desk.walk start.requires.0 (omega (arith, long)) in
+    rw above.shifted (omega (arith, above.fits))
+
+pub overflow_add-uid-2 : goal.overflow_add-uid-2
+unfolding levels twins_uid
+overflow_add-uid-2 c =
+    let start = c in
+    let long : length start.args.desk.walk.marks ≡ levels = search (rules, start.well-formed) in
+    let above = digits_above start.args.desk.walk start.requires.0 (omega (arith, long)) in
+    rw (above.shifted, c.mask.ensures) (omega (arith, above.fits))
+
+pub put-requires : goal.put-requires
+put-requires c = omega (arith, rw length_hex_digits at c.put_digits-next.ensures.next, c.put-place.ensures.next, c.requires.at_in_bounds)
+
+pub returns : goal.returns
+unfolding levels twins_uid
+returns c =
+    let start = c in
+    let long : length start.args.desk.walk.marks ≡ levels = search (rules, start.well-formed) in
+    let above = digits_above start.args.desk.walk start.requires.0 (omega (arith, long)) in
+    let put = c.put-place.ensures in
+    let mask = c.mask in
+    let digits = c.put_digits-next.ensures in
+    let line-end = c.put.ensures in
+    let places = rw length_hex_digits at digits.next in
+    twins_puts _ c.if-walk-ne2.false (rw (above.shifted, mask.ensures) refl) put digits line-end (omega (arith, put.next, line-end.next, start.requires.1))

@@ -1,0 +1,66 @@
+-- `reader::Request::read` meets its contract: refused, an error, or what the part shows (Served.antt). Assumes nothing.
+use native.Mathlib.Omega.{arith}
+use Rattle.reader.proofs.Served.{none-refuses, answer-long, part_cut, part-earned, reads-refused, reads-error, reads-shown}
+use Rattle.reader.proofs.Request.read.Goals as goal
+
+pub returns-then-number-ne0 : goal.returns-then-number-ne0
+returns-then-number-ne0 c =
+    let args = c.args in
+    reads-refused args.self args.answer.now args.blocks.now args.locks.now c.refusal-number.ensures c.if-number-ne0.true
+
+pub bounds-answer-0 : goal.bounds-answer-0
+bounds-answer-0 c =
+    let args = c.args in
+    omega (
+      arith,
+      answer-long args.self args.answer.now args.blocks.now args.locks.now c.refusal-number.ensures c.if-number-ne0.false,
+    )
+
+pub bounds-answer-1 : goal.bounds-answer-1
+bounds-answer-1 c =
+    let args = c.args in
+    let refusal = c.refusal-number in
+    omega (
+      arith,
+      answer-long args.self args.answer.now args.blocks.now args.locks.now refusal.ensures c.if-number-ne0.false,
+    )
+
+pub returns-then-answer-ne0 : goal.returns-then-answer-ne0
+returns-then-answer-ne0 c =
+    let args = c.args in
+    let refusal = c.refusal-number in
+    reads-error args.self args.answer.now args.blocks.now args.locks.now refusal.ensures c.if-number-ne0.false
+    c.if-answer-ne0.true
+
+pub slice_bounds-hand_over-start : goal.slice_bounds-hand_over-start
+slice_bounds-hand_over-start c =
+    let args = c.args in
+    let refusal = c.refusal-number in
+    omega (
+      arith,
+      answer-long args.self args.answer.now args.blocks.now args.locks.now refusal.ensures c.if-number-ne0.false,
+    )
+
+pub hand_over-shown-requires : goal.hand_over-shown-requires
+hand_over-shown-requires c =
+    let args = c.args in
+    let refusal = c.refusal-number in
+    let good =
+    none-refuses args.self args.answer.now args.blocks.now args.locks.now refusal.ensures
+    c.if-number-ne0.false in (
+      good.request,
+      (
+        part-earned args.self args.answer.now args.blocks.now args.locks.now refusal.ensures
+            c.if-number-ne0.false c.if-answer-ne0.false (part_cut args.answer.now),
+        (good.blocks_room, good.locks_room),
+      ),
+    )
+
+pub returns : goal.returns
+returns c =
+    let args = c.args in
+    let refusal = c.refusal-number in
+    let hand-over = c.hand_over-shown in
+    reads-shown args.self args.answer.now args.blocks.now args.locks.now refusal.ensures
+    c.if-number-ne0.false
+    c.if-answer-ne0.false (part_cut args.answer.now) hand-over.ensures

@@ -1,0 +1,85 @@
+-- `reader::answers::hand_over` meets its contract: each owner is asked what the length earned allows, and leaves what the request shows (Handed.antt).
+-- Assumes nothing.
+use native.Mathlib.Omega.{arith}
+use mathlib.Core.Path.{◌≡◌, sym, ◌∙◌}
+use mathlib.Core.Bool.{true, false}
+use Rattle.reader.proofs.Handed.{blocks-few, earned-blocks, block-bytes-blocks, lock-bytes-blocks, hands-blocks, earned-locks, lock-bytes-locks, hands-locks, earned-information, hands-information, earned-nothing, hands-nothing}
+use Rattle.reader.proofs.Counts.{count_most}
+use Rattle.reader.specs.Reading.{reads_blocks}
+use Rattle.reader.proofs.answers.hand_over.Goals as goal
+
+pub blocks-requires : goal.blocks-requires
+blocks-requires c =
+    let args = c.args in
+    let asked = c.requires in
+    let reads-blocks = c.reads_blocks in
+    let lead = c.lead in
+    let is : reads_blocks args.request ≡ true = sym reads-blocks.ensures ∙ c.if-reads_blocks.true in
+    rw (
+      c.count.ensures,
+      lead.ensures,
+    ) (
+      blocks-few args.request is asked.0 (omega arith),
+      (
+        omega (arith, earned-blocks args.request is),
+        (omega (arith, block-bytes-blocks args.request is), omega (arith, lock-bytes-blocks args.request is)),
+      ),
+    )
+
+pub returns-then-reads_blocks : goal.returns-then-reads_blocks
+returns-then-reads_blocks c =
+    let args = c.args in
+    let reads-blocks = c.reads_blocks in
+    let lead = c.lead in
+    let count = c.count in
+    let blocks2 = c.blocks-then-reads_blocks in
+    let is : reads_blocks args.request ≡ true =
+    sym reads-blocks.ensures ∙ c.if-reads_blocks.true in
+    hands-blocks args.request is args.part.now args.blocks.now args.locks.now lead.ensures count.ensures blocks2.ensures
+
+pub locks-requires : goal.locks-requires
+locks-requires c =
+    let args = c.args in
+    let reads-blocks = c.reads_blocks in
+    let is : reads_blocks args.request ≡ false = sym reads-blocks.ensures ∙ c.if-reads_blocks.false in
+    let all = earned-locks args.request is c.if-request-eq44.true in
+    (omega (arith, count_most args.request (omega arith)), omega (arith, lock-bytes-locks args.request is c.if-request-eq44.true))
+
+pub returns-then-request-eq44 : goal.returns-then-request-eq44
+returns-then-request-eq44 c =
+    let args = c.args in
+    let asked = c.requires in
+    let reads-blocks = c.reads_blocks in
+    let is : reads_blocks args.request ≡ false = sym reads-blocks.ensures ∙ c.if-reads_blocks.false in
+    hands-locks args.request is args.part.now args.blocks.now args.locks.now c.if-request-eq44.true
+    asked.1.0 c.locks.ensures
+
+pub information-requires : goal.information-requires
+information-requires c =
+    let args = c.args in
+    let reads-blocks = c.reads_blocks in
+    let is : reads_blocks args.request ≡ false = sym reads-blocks.ensures ∙ c.if-reads_blocks.false in
+    omega (arith, earned-information args.request is c.if-request-eq44.false c.if-request-eq43.true)
+
+pub returns-then-request-eq43 : goal.returns-then-request-eq43
+returns-then-request-eq43 c =
+    let args = c.args in
+    let reads-blocks = c.reads_blocks in
+    let is : reads_blocks args.request ≡ false = sym reads-blocks.ensures ∙ c.if-reads_blocks.false in
+    hands-information args.request is args.part.now args.blocks.now args.locks.now c.if-request-eq44.false
+    c.if-request-eq43.true c.information.ensures
+
+pub nothing-requires : goal.nothing-requires
+nothing-requires c =
+    let args = c.args in
+    let reads-blocks = c.reads_blocks in
+    let is : reads_blocks args.request ≡ false = sym reads-blocks.ensures ∙ c.if-reads_blocks.false in
+    omega (arith, earned-nothing args.request is c.if-request-eq44.false c.if-request-eq43.false)
+
+pub returns : goal.returns
+returns c =
+    let args = c.args in
+    let reads-blocks = c.reads_blocks in
+    let is : reads_blocks args.request ≡ false = sym reads-blocks.ensures ∙ c.if-reads_blocks.false in
+    hands-nothing args.request is args.part.now args.blocks.now args.locks.now c.if-request-eq44.false
+    c.if-request-eq43.false c.nothing.ensures

@@ -1,0 +1,10 @@
+-- `four` meets its contract: four bytes joined are the field (Fields.antt). Assumes nothing.
+use mathlib.Core.Path.{◌∙◌}
+use Rattle.record.proofs.Fields.{four_of_bytes}
+use Rattle.record.proofs.meaning.four.Goals as goal
+
+pub returns : goal.returns
+returns c =
+    let join = c.join in
+    let args = c.args in
+    join.ensures ∙ four_of_bytes args.bytes.now args.at

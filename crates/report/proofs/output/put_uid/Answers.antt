@@ -1,0 +1,14 @@
+-- `report::output::put_uid` meets its contract: by the promise of hex's `put_digits` where there is room. Assumes nothing.
+use native.Mathlib.Omega.{arith}
+use Rattle.digits.proofs.Digits.{length_hex_digits}
+use Rattle.digits.proofs.Put.{put-cast, put-at}
+use Rattle.report.proofs.output.put_uid.Goals as goal
+
+pub put_digits-requires : goal.put_digits-requires
+put_digits-requires c = tt
+
+pub overflow_cast-result : goal.overflow_cast-result
+overflow_cast-result c = put-cast c.put_digits.type-inv c.put_digits.ensures (rw length_hex_digits (omega arith))
+
+pub returns : goal.returns
+returns c = put-at c.put_digits.type-inv c.put_digits.ensures (rw length_hex_digits (omega arith))

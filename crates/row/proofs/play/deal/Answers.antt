@@ -1,0 +1,21 @@
+-- `row::play::deal` meets its contract. The loop's invariant: the first i cards are those of the first i UIDs.
+-- Assumes nothing.
+use native.Mathlib.Omega.{arith}
+use mathlib.Core.Path.{◌≡◌, ◌∙◌}
+use lib.ListN.{length, length-set}
+use Rattle.row.proofs.Dealt.{dealt_more, dealt_all}
+use Rattle.row.proofs.play.deal.Goals as goal
+
+pub loop-i-preserved : goal.loop-i-preserved
+loop-i-preserved c =
+    let loop = c.loop-i in
+    let uids = c.args.t1 in
+    let all : length uids ≡ 100 = c.well_formed.0.1.0.1 in
+    (omega arith, (length-set loop.row loop.i _ ∙ loop.invariant.1.0, dealt_more uids loop.row loop.i (omega (arith, all)) (omega arith) loop.invariant.1.1 c.card_of.ensures))
+
+pub returns : goal.returns
+returns c =
+    let loop = c.loop-i in
+    let uids = c.args.t1 in
+    let all : length uids ≡ 100 = c.well_formed.0.1.0.1 in
+    dealt_all uids loop.row loop.i (omega (arith, all)) (omega arith) loop.invariant.1.1

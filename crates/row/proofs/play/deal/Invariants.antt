@@ -1,0 +1,13 @@
+-- `row::play::deal` meets its contract. The loop's invariant: the first i cards are those of the first i UIDs.
+-- Assumes nothing.
+use Prim.Native.Nat.{◌≤◌, ◌-◌}
+use mathlib.Core.Path.{◌≡◌}
+use lib.ListN.{length, take}
+use Rattle.row.specs.Row.{cards_of}
+use Rattle.row.proofs.play.deal.Given as goal
+
+abbrev pub invariant-loop-i : goal.invariant-loop-i
+invariant-loop-i l = (l.i ≤ 100) × ((length l.row ≡ 100) × (take l.i l.row ≡ cards_of (take l.i l.uids)))
+
+abbrev pub decreases-loop-i : goal.decreases-loop-i
+decreases-loop-i l = 100 - l.i

@@ -1,0 +1,56 @@
+-- `tracks::decoder::length_as` meets its contract: by the tests of LengthWays.antt. Assumes nothing.
+use borrow.Author.Tests.{not-true, not-false}
+use mathlib.Core.Path.{◌≡◌, sym, ◌∙◌}
+use mathlib.Core.Bool.{true, false}
+use Prim.Native.Nat.{◌-◌}
+use native.Mathlib.Nat.{div-add-mod'}
+use native.Mathlib.Omega.{arith}
+use lib.ListN.{length}
+use Rattle.frames.specs.Frame.{longest}
+use Rattle.tracks.specs.Steps.{count_of}
+use Rattle.tracks.proofs.LengthWays.{framed, size-of-framed, length-too-short, length-unframed, length-framed}
+use Rattle.tracks.proofs.Units.{unit_least}
+use Rattle.tracks.proofs.decoder.length_as.Goals as goal
+
+is_framed : (c : tie.Else2) → framed c.before.before.before.before.before.before.before.args.coding c.before.before.before.before.before.before.before.args.track.now ≡ true
+unfolding count_of longest
+is_framed c =
+    rw (← c.before.before.before.before.unit-of.ensures, ← c.before.before.before.byte_at.ensures, ← c.before.before.start_of_lem.ensures, ← c.before.byte-at2.ensures)
+    (not-false _ c.if2.false)
+
+pub returns-then-n-lt2 : goal.returns-then-n-lt2
+unfolding longest
+returns-then-n-lt2 c = sym (length-too-short c.args.coding c.args.track.now c.if-n-lt2.true)
+
+pub nonzero_div-count : goal.nonzero_div-count
+nonzero_div-count c = omega (arith, unit_least c.args.coding)
+
+pub overflow_mul-framed : goal.overflow_mul-framed
+overflow_mul-framed c = omega (arith, div-add-mod' (length c.args.track.now - 2) c.unit_of-width.result)
+
+pub overflow_add-framed : goal.overflow_add-framed
+overflow_add-framed c = omega (arith, div-add-mod' (length c.args.track.now - 2) c.unit_of-width.result)
+
+-- the four tests are the definition's
+pub returns-then-not-framed : goal.returns-then-not-framed
+unfolding count_of longest
+returns-then-not-framed c =
+    let args = c.args in
+    let tests : framed args.coding args.track.now ≡ false =
+    rw (← c.unit_of-width.ensures, ← c.byte_at.ensures, ← c.start_of.ensures, ← c.byte_at-2.ensures)
+    (not-true _ c.if-not-framed.true) in
+    sym (length-unframed args.coding args.track.now tests)
+
+pub all_bytes-requires : goal.all_bytes-requires
+unfolding count_of
+all_bytes-requires c =
+    let args = c.args in
+    rw c.unit_of-width.ensures (omega (arith, size-of-framed args.coding args.track.now (is_framed c)))
+
+pub returns-then-all_bytes : goal.returns-then-all_bytes
+unfolding count_of
+returns-then-all_bytes c = sym (length-framed _ _ (is_framed c) ∙ rw (← c.unit_of-width.ensures, ← c.all_bytes.ensures, c.if-all_bytes.true))
+
+pub returns-else-all_bytes : goal.returns-else-all_bytes
+unfolding count_of longest
+returns-else-all_bytes c = sym (length-framed _ _ (is_framed c) ∙ rw (← c.unit_of-width.ensures, ← c.all_bytes.ensures, c.if-all_bytes.false))

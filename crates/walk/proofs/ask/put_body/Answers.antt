@@ -1,0 +1,28 @@
+-- `walk::ask::put_body` meets its contract: head and mask, one after another (Requests.antt). The numbers are small: a head of three bytes
+-- and a mask of eight at the most. Assumes nothing.
+use native.Mathlib.Omega.{arith}
+use Rattle.walk.proofs.Requests.{length_puts, length_head_most, mask_bytes_most, puts_body}
+use Rattle.walk.proofs.ask.put_body.Goals as goal
+
+pub bounds-room-at : goal.bounds-room-at
+bounds-room-at c =
+    let w = c.args.walk in
+    let head = c.put_head-at.ensures in
+    let short = length_head_most w in
+    omega (arith, head.count, short, length_puts head (omega arith))
+
+pub overflow_add-result : goal.overflow_add-result
+overflow_add-result c = omega (arith, c.put_head-at.ensures.count, length_head_most c.args.walk)
+
+pub overflow_add-result-2 : goal.overflow_add-result-2
+overflow_add-result-2 c =
+    let start = c in
+    let w = start.args.walk in
+    let few = mask_bytes_most w.level start.requires.0 in
+    omega (arith, c.put_head-at.ensures.count, length_head_most w, c.mask_bytes-bytes.ensures, few)
+
+pub returns : goal.returns
+returns c =
+    let start = c in
+    puts_body start.args.walk start.args.room.now c.put_head-at.ensures c.mask_bytes-bytes.ensures
+    (rw c.mask.ensures at c.put_field.ensures) start.requires.0 start.requires.1

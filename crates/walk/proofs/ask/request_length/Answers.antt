@@ -1,0 +1,31 @@
+-- `walk::ask::request_length` meets its contract, by whether there is a family (Requests.antt). Assumes nothing.
+use mathlib.Core.Path.{sym, ◌∙◌}
+use native.Mathlib.Omega.{arith}
+use Rattle.walk.specs.Record.{mask_length, has_family}
+use Rattle.walk.proofs.Requests.{mask_bytes_most, length_with_family, length_no_family}
+use Rattle.walk.proofs.ask.request_length.Goals as goal
+
+pub overflow_add-result : goal.overflow_add-result
+overflow_add-result c =
+    let mask-bytes = c.mask_bytes-bytes in
+    let args = c.args in
+    let asked = c.requires in
+    omega (arith, mask-bytes.ensures, mask_bytes_most args.walk.level (asked))
+
+pub returns-then-has_family : goal.returns-then-has_family
+unfolding mask_length has_family
+returns-then-has_family c =
+    let mask-bytes = c.mask_bytes-bytes in
+    let args = c.args in
+    let has-family = c.has_family in
+    let first = c.if-has_family in
+    rw mask-bytes.ensures (sym (length_with_family args.walk (sym has-family.ensures ∙ first.true)))
+
+pub returns-else-has_family : goal.returns-else-has_family
+unfolding mask_length has_family
+returns-else-has_family c =
+    let mask-bytes = c.mask_bytes-bytes in
+    let args = c.args in
+    let has-family = c.has_family in
+    let first = c.if-has_family in
+    rw mask-bytes.ensures (sym (length_no_family args.walk (sym has-family.ensures ∙ first.false)))

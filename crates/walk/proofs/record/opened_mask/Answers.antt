@@ -1,0 +1,21 @@
+-- `walk::record::opened_mask` meets its contract: the digits below and the digit above stay within 64 bits. Assumes nothing.
+use native.Mathlib.Omega.{arith}
+use Rattle.walk.specs.Record.{mask_length, opened_mask}
+use Rattle.walk.proofs.Limits.{low_digits_most, digit_most}
+use Rattle.walk.proofs.record.opened_mask.Goals as goal
+
+pub overflow_mul-result : goal.overflow_mul-result
+overflow_mul-result c = omega (arith, digit_most c.unit.result c.args.s c.requires.s_bound, c.unit.ensures.1)
+
+pub overflow_add-result : goal.overflow_add-result
+overflow_add-result c =
+    let args = c.args in
+    let asked = c.requires in
+    let low-bits = c.low_bits in
+    let unit = c.unit in
+    let low = low_digits_most args.mask args.j asked.0 in
+    omega (arith, low-bits.ensures, low, digit_most unit.result args.s asked.1, unit.ensures.1)
+
+pub returns : goal.returns
+unfolding opened_mask mask_length
+returns c = rw (c.low_bits.ensures, c.unit.ensures.0)
