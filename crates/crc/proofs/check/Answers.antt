@@ -1,12 +1,15 @@
 -- `crc::check` meets its contract. The loop's invariant: the register has sixteen bits, and the bytes from i on take it
 -- to what the whole message takes the preset to. The measure is what is left of the message. Assumes nothing.
 use native.Mathlib.Omega.{arith}
-use mathlib.Core.Path.{ap}
+use mathlib.Core.Path.{refl, ap}
 use Prim.Native.Nat.{ℕ, ◌≤◌, ◌<◌, ◌-◌}
 use lib.ListN.{length, drop_of_length-le}
 use Rattle.crc.specs.Check.{register, check_of}
 use Rattle.crc.proofs.Register.{register_drop, taken_fits}
 use Rattle.crc.proofs.check.Goals as goal
+
+pub loop-i-init : goal.loop-i-init
+loop-i-init c = (omega arith, omega arith, refl)
 
 pub loop-i-preserved : goal.loop-i-preserved
 loop-i-preserved c =

@@ -1,10 +1,13 @@
 -- `digits::fill` meets its contract. The loop's invariant: the row of the bytes that are left, placed here, comes to the whole. The measure is how many
 -- are left. Assumes nothing.
 use native.Mathlib.Omega.{arith}
-use mathlib.Core.Path.{sym, ◌∙◌}
+use mathlib.Core.Path.{refl, sym, ◌∙◌}
 use lib.ListN.{length-set}
 use Rattle.digits.proofs.Rows.{put_more, put_end}
 use Rattle.digits.proofs.fill.Goals as goal
+
+pub loop-i-init : goal.loop-i-init
+loop-i-init c = (omega arith, omega arith, refl, refl)
 
 pub digit-requires : goal.digit-requires
 digit-requires c = tt

@@ -1,13 +1,16 @@
 -- `digits::has_form` meets its contract. The loop's invariant: what is left of text and form decides. The measure is how much is left.
 -- Assumes nothing.
 use native.Mathlib.Omega.{arith}
-use mathlib.Core.Path.{sym, ◌∙◌}
+use mathlib.Core.Path.{refl, sym, ◌∙◌}
 use borrow.Author.Tests.{not-true, not-false}
 use Rattle.digits.proofs.Digits.{form_length, form_cons, form_end}
 use Rattle.digits.proofs.has_form.Goals as goal
 
 pub returns-then-text-form : goal.returns-then-text-form
 returns-then-text-form c = form_length _ _ c.if-text-form.true
+
+pub loop-i-init : goal.loop-i-init
+loop-i-init c = (omega arith, refl)
 
 pub fits-requires : goal.fits-requires
 fits-requires c = tt

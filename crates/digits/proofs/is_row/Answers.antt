@@ -1,9 +1,12 @@
 -- `digits::is_row` meets its contract. The loop's invariant: what is left of the text decides. The measure is how much is left. Assumes nothing.
 use native.Mathlib.Omega.{arith}
-use mathlib.Core.Path.{sym, ◌∙◌}
+use mathlib.Core.Path.{refl, sym, ◌∙◌}
 use borrow.Author.Tests.{not-true, not-false}
 use Rattle.digits.proofs.Rows.{row_cons, row_cut, row_end}
 use Rattle.digits.proofs.is_row.Goals as goal
+
+pub loop-i-init : goal.loop-i-init
+loop-i-init c = (omega arith, refl)
 
 pub returns-then-text-i-lt3 : goal.returns-then-text-i-lt3
 returns-then-text-i-lt3 c =

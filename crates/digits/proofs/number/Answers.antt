@@ -1,10 +1,14 @@
 -- `digits::number` meets its contract. The loop's invariant: the number so far is that of the first i digits. The measure is how many are left.
 -- Assumes nothing.
 use native.Mathlib.Omega.{arith}
-use mathlib.Core.Path.{◌≡◌, ◌∙◌, ap}
-use Rattle.digits.specs.Digits.{digit_of}
+use mathlib.Core.Path.{◌≡◌, refl, ◌∙◌, ap}
+use Rattle.digits.specs.Digits.{digit_of, digits_at, number_at}
 use Rattle.digits.proofs.Digits.{number_suc}
 use Rattle.digits.proofs.number.Goals as goal
+
+pub loop-i-init : goal.loop-i-init
+unfolding number_at digits_at
+loop-i-init c = (omega arith, refl)
 
 pub byte_at-requires : goal.byte_at-requires
 byte_at-requires c = tt

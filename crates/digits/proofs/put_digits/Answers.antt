@@ -1,7 +1,7 @@
 -- `digits::put_digits` meets its contract: refused twice for want of room, else digit by digit. The loop's invariant: the digits that are left, placed
 -- here, come to the whole. The measure is how many are left. Assumes nothing.
 use native.Mathlib.Omega.{arith}
-use mathlib.Core.Path.{◌≡◌, ◌∙◌}
+use mathlib.Core.Path.{◌≡◌, refl, ◌∙◌}
 use Prim.Native.Nat.{◌+◌, ◌-◌}
 use mir.Syntax.{w64}
 use mir.ValLaws.{to_z_pos}
@@ -15,6 +15,9 @@ returns-then-room-count c = put_refused _ _ _ _ (length_hex_digits _ _) (omega a
 
 pub returns-then-room-count-2 : goal.returns-then-room-count-2
 returns-then-room-count-2 c = put_refused _ _ _ _ (length_hex_digits _ _) (omega arith)
+
+pub loop-left-init : goal.loop-left-init
+loop-left-init c = (omega arith, refl, refl)
 
 pub digit-requires : goal.digit-requires
 digit-requires c = tt

@@ -1,7 +1,7 @@
 -- `digits::read_row` meets its contract. The loop's invariant: the bytes of the row that is left, placed here, come to the whole. The measure is how
 -- many are left. Assumes nothing.
 use native.Mathlib.Omega.{arith}
-use mathlib.Core.Path.{sym, ◌∙◌}
+use mathlib.Core.Path.{refl, sym, ◌∙◌}
 use mir.Syntax.{w64}
 use mir.ValLaws.{to_z_pos}
 use Prim.Native.Nat.{◌/◌}
@@ -11,6 +11,9 @@ use Rattle.digits.proofs.read_row.Goals as goal
 
 pub returns-then-buffer-n : goal.returns-then-buffer-n
 returns-then-buffer-n c = read_refused _ _ (omega arith)
+
+pub loop-i-init : goal.loop-i-init
+loop-i-init c = (omega arith, refl, refl)
 
 pub pair_of-requires : goal.pair_of-requires
 pair_of-requires c = tt

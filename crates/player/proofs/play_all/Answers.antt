@@ -1,6 +1,6 @@
 -- `player::play_all` is safe and ends. The loop's invariant: the lent buffers keep their lengths. The measure is the number of turns that are left.
 -- Assumes nothing.
-use Rattle.std.proofs.Common.{arith}
+use Rattle.std.proofs.Common.{refl, arith}
 use Rattle.player.proofs.play_all.Goals as goal
 
 pub new-reading-requires : goal.new-reading-requires
@@ -8,6 +8,9 @@ new-reading-requires c = tt
 
 pub new-desk-requires : goal.new-desk-requires
 new-desk-requires c = tt
+
+pub loop-turns-init : goal.loop-turns-init
+loop-turns-init c = (refl, refl, refl, refl)
 
 pub wrapping_add_u64-number-requires : goal.wrapping_add_u64-number-requires
 wrapping_add_u64-number-requires c = tt

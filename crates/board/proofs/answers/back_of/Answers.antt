@@ -13,6 +13,6 @@ returns-then-number-ne0 c = answer_refused _ _ _ c.if-number-ne0.true (to_z-of_z
 pub returns : goal.returns
 returns c =
     let kind = c.kind_of-kind in
-    let value = c.value_of_lem in
+    let value = c.value_of-value in
     answer_read _ _ _ kind.result value.result c.if-number-ne0.false kind.ensures value.ensures
     (to_z_pos w64 _ (omega arith))

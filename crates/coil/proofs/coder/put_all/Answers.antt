@@ -19,7 +19,7 @@ bounds-track-at-in-loop-i c = simp length-set (omega arith)
 pub loop-i-preserved : goal.loop-i-preserved
 loop-i-preserved c =
     let loop = c.loop-i in
-    let half_of_lem = c.before.half_of_lem in
+    let half_of_lem = c.half_of in
     let half-of2 = c.half_of-in-loop-i in
     let args = c.args in
     let test = c.loop-i-test in

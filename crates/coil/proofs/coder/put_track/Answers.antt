@@ -11,11 +11,11 @@ pub put_all-requires : goal.put_all-requires
 put_all-requires c = simp length-set (omega arith)
 
 pub bounds-track-n : goal.bounds-track-n
-bounds-track-n c = omega (arith, simp length-set at c.before.before.put_all_lem.auto.1.0)
+bounds-track-n c = omega (arith, simp length-set at c.put_all.auto.1.0)
 
 pub returns : goal.returns
 unfolding answer_track
 returns c =
-    let put_all_lem = c.before.before.put_all_lem in
+    let put_all_lem = c.put_all in
     let args = c.args in
     rw put_all_lem.ensures (placed_between _ _ _ _ (args.n - 1) (omega (arith, length_pulses args.answer.now)) (omega arith))

@@ -1,7 +1,7 @@
 -- `coil::decoder::sixteen_good` meets its contract. The loop's invariant: the flaws passed stand over each other. They are 0 only if each is.
 -- Assumes nothing.
 use native.Mathlib.Omega.{arith}
-use mathlib.Core.Path.{◌≡◌}
+use mathlib.Core.Path.{◌≡◌, refl}
 use Prim.Native.Nat.{◌+◌}
 use lib.ListN.{get_or}
 use native.Mathlib.Numerals.{add-one}
@@ -9,6 +9,10 @@ use borrow.Author.Tests.{eqb-true}
 use Rattle.coil.specs.Steps.{flaws}
 use Rattle.lent.proofs.Ors.{ors, ors_none}
 use Rattle.coil.proofs.decoder.sixteen_good.Goals as goal
+
+pub loop-k-init : goal.loop-k-init
+unfolding ors
+loop-k-init c = (omega arith, refl)
 
 pub loop-k-preserved : goal.loop-k-preserved
 unfolding ors

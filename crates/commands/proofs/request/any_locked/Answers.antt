@@ -2,10 +2,14 @@
 -- many are left. Assumes nothing.
 use native.Mathlib.Omega.{arith}
 use native.Mathlib.Numerals.{add-one}
-use mathlib.Core.Path.{◌≡◌}
+use mathlib.Core.Path.{◌≡◌, refl}
 use Prim.Native.Nat.{◌+◌}
 use Rattle.commands.specs.Request.{is_locked, any_locked}
 use Rattle.commands.proofs.request.any_locked.Goals as goal
+
+pub loop-i-init : goal.loop-i-init
+unfolding any_locked
+loop-i-init c = (omega arith, refl)
 
 pub loop-i-preserved : goal.loop-i-preserved
 unfolding any_locked is_locked

@@ -2,10 +2,14 @@
 -- Assumes nothing.
 use native.Mathlib.Omega.{arith}
 use native.Mathlib.Numerals.{add-one}
-use mathlib.Core.Path.{◌≡◌}
+use mathlib.Core.Path.{◌≡◌, refl}
 use Rattle.play.specs.Effects.{blocks_stored}
 use Rattle.play.proofs.Stores.{source_within, store_within}
 use Rattle.play.proofs.effects.store_blocks.Goals as goal
+
+pub loop-i-init : goal.loop-i-init
+unfolding blocks_stored
+loop-i-init c = (omega arith, refl, refl)
 
 pub copy-requires : goal.copy-requires
 copy-requires c =

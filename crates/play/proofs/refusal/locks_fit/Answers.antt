@@ -1,8 +1,12 @@
 -- `play::refusal::locks_fit` meets its contract. The loop's invariant: the highest byte so far and what is left of the lock bytes decide.
 -- The measure is how many are left. Assumes nothing.
 use native.Mathlib.Omega.{arith}
+use mathlib.Core.Path.{refl}
 use Rattle.play.proofs.Locks.{locks_next, locks_past}
 use Rattle.play.proofs.refusal.locks_fit.Goals as goal
+
+pub loop-i-init : goal.loop-i-init
+loop-i-init c = (omega arith, refl)
 
 pub loop-i-preserved : goal.loop-i-preserved
 loop-i-preserved c =

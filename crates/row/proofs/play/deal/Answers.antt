@@ -1,10 +1,15 @@
 -- `row::play::deal` meets its contract. The loop's invariant: the first i cards are those of the first i UIDs.
 -- Assumes nothing.
 use native.Mathlib.Omega.{arith}
-use mathlib.Core.Path.{◌≡◌, ◌∙◌}
+use mathlib.Core.Path.{◌≡◌, refl, ◌∙◌}
 use lib.ListN.{length, length-set}
 use Rattle.row.proofs.Dealt.{dealt_more, dealt_all}
+use Rattle.row.specs.Row.{cards_of}
 use Rattle.row.proofs.play.deal.Goals as goal
+
+pub loop-i-init : goal.loop-i-init
+unfolding cards_of
+loop-i-init c = (omega arith, (refl, refl))
 
 pub loop-i-preserved : goal.loop-i-preserved
 loop-i-preserved c =

@@ -1,13 +1,17 @@
 -- `tracks::decoder::eight_blank` meets its contract. The loop's invariant: the bytes passed stand over each other. Bytes put over each
 -- other are 00 only if each is. Assumes nothing.
 use native.Mathlib.Omega.{arith}
-use mathlib.Core.Path.{◌≡◌}
+use mathlib.Core.Path.{◌≡◌, refl}
 use Prim.Native.Nat.{◌+◌}
 use lib.ListN.{get_or}
 use borrow.Author.Tests.{eqb-true}
 use native.Mathlib.Numerals.{add-one}
 use Rattle.lent.proofs.Ors.{ors, ors_none}
 use Rattle.tracks.proofs.decoder.eight_blank.Goals as goal
+
+pub loop-k-init : goal.loop-k-init
+unfolding ors
+loop-k-init c = (omega arith, refl)
 
 pub loop-k-preserved : goal.loop-k-preserved
 unfolding ors

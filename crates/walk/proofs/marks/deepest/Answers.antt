@@ -13,6 +13,14 @@ loop-n-init c =
     let long : length c.args.t1 ≡ levels = search rules in
     (omega arith, ap (deepest_of c.args.t1) (sym long))
 
+pub bounds-marks-level : goal.bounds-marks-level
+unfolding levels
+bounds-marks-level c = omega arith
+
+pub overflow_add-result : goal.overflow_add-result
+unfolding levels
+overflow_add-result c = omega arith
+
 pub returns-then-marks-level-ne0 : goal.returns-then-marks-level-ne0
 returns-then-marks-level-ne0 c = sym (deepest_here _ _ c.loop-n-test.true c.if-marks-level-ne0.true) ∙ c.loop-n.invariant.1
 

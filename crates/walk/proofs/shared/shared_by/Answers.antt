@@ -1,9 +1,15 @@
 -- `walk::shared::shared_by` meets its contract. The loop's invariant: each number is the count over the marks so far. Assumes nothing.
+use mathlib.Core.Path.{refl}
 use Prim.Native.Nat.{◌<◌}
 use native.Mathlib.Omega.{arith}
 use lib.ListN.{length}
+use Rattle.tails.specs.Sum.{tally, times}
 use Rattle.walk.proofs.OwnersSteps.{times_more, times_take_most, shares_counted}
 use Rattle.walk.proofs.shared.shared_by.Goals as goal
+
+pub loop-i-init : goal.loop-i-init
+unfolding times tally
+loop-i-init c = (omega arith, refl, refl, refl)
 
 pub more-free-requires : goal.more-free-requires
 more-free-requires c =

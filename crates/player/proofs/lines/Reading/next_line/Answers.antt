@@ -1,7 +1,10 @@
 -- `player::lines::Reading::next_line` is safe and ends. The loop's invariant: the lent buffers keep their lengths. The measure is the room that the
 -- line has left. Assumes nothing.
-use Rattle.std.proofs.Common.{arith, length-set}
+use Rattle.std.proofs.Common.{refl, arith, length-set}
 use Rattle.player.proofs.lines.Reading.next_line.Goals as goal
+
+pub loop-n-init : goal.loop-n-init
+loop-n-init c = (refl, refl)
 
 pub next_byte-self-requires : goal.next_byte-self-requires
 next_byte-self-requires c = tt

@@ -1,0 +1,8 @@
+-- `frames::join` meets its contract: each byte has its weight. Assumes nothing.
+use native.Mathlib.Omega.{arith}
+use Rattle.frames.specs.Field.{field_of}
+use Rattle.frames.proofs.join.Goals as goal
+
+pub returns : goal.returns
+unfolding field_of
+returns c = omega arith
