@@ -10,12 +10,13 @@ returns-in-Idle c = rw c.in-Idle.is
 pub returns-then-slot-lt15 : goal.returns-then-slot-lt15
 unfolding moved
 returns-then-slot-lt15 c =
-    let sequence = c.sequence-1 in
-    let first = c.if-slot-lt15 in
-    let in-sequence = c.in_sequence in
-    let present-if = c.present_if in
-    let fits-slot = c.fits_slot in
-    rw (sequence.given.1, lt-ltb _ _ first.true, in-sequence.ensures, present-if.ensures, fits-slot.ensures)
+    rw (
+      c.in-Running.is,
+      lt-ltb _ _ c.if-slot-lt15.true,
+      c.in_sequence.ensures,
+      c.present_if.ensures,
+      c.fits_slot.ensures,
+    )
 
 pub returns-else-slot-lt15 : goal.returns-else-slot-lt15
 unfolding moved
