@@ -2,7 +2,6 @@
 -- Assumes nothing.
 use native.Mathlib.Omega.{arith}
 use mathlib.Core.Path.{refl, sym, ◌∙◌}
-use borrow.Author.Tests.{not-true, not-false}
 use Rattle.digits.proofs.Digits.{form_length, form_cons, form_end}
 use Rattle.digits.proofs.has_form.Goals as goal
 
@@ -17,21 +16,21 @@ fits-requires c = tt
 
 pub returns-then-not-fits : goal.returns-then-not-fits
 returns-then-not-fits c =
-    let fits = c.before.fits2 in
+    let fits = c.fits in
     let loop = c.loop-i in
     let same = c.if-text-form.false in
     let args = c.args in
     let here = form_cons args.text.now args.form.now loop.i (omega arith) same in
-    rw (← loop.invariant.1, here, ← fits.ensures, not-true fits.result c.if-not-fits.true)
+    rw (← loop.invariant.1, here, ← fits.ensures, c.if-not-fits.true)
 
 pub loop-i-preserved : goal.loop-i-preserved
 loop-i-preserved c =
-    let fits = c.before.fits2 in
+    let fits = c.fits in
     let loop = c.loop-i in
     let same = c.if-text-form.false in
     let args = c.args in
     let here = form_cons args.text.now args.form.now loop.i (omega arith) same in
-    (omega arith, sym (rw (← fits.ensures, not-false fits.result c.if-not-fits.false) at here) ∙ loop.invariant.1)
+    (omega arith, sym (rw (← fits.ensures, c.if-not-fits.false) at here) ∙ loop.invariant.1)
 
 pub returns : goal.returns
 returns c =

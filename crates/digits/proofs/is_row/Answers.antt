@@ -1,7 +1,6 @@
 -- `digits::is_row` meets its contract. The loop's invariant: what is left of the text decides. The measure is how much is left. Assumes nothing.
 use native.Mathlib.Omega.{arith}
 use mathlib.Core.Path.{refl, sym, ◌∙◌}
-use borrow.Author.Tests.{not-true, not-false}
 use Rattle.digits.proofs.Rows.{row_cons, row_cut, row_end}
 use Rattle.digits.proofs.is_row.Goals as goal
 
@@ -22,7 +21,7 @@ returns-then-not-is_pair c =
     let pair = c.is_pair in
     let loop = c.loop-i in
     let text = c.args.text.now in
-    rw (← loop.invariant.1, row_cons text loop.i (omega arith), ← pair.ensures, not-true pair.result c.if-not-is_pair.true)
+    rw (← loop.invariant.1, row_cons text loop.i (omega arith), ← pair.ensures, c.if-not-is_pair.true)
 
 pub loop-i-preserved : goal.loop-i-preserved
 loop-i-preserved c =
@@ -30,7 +29,7 @@ loop-i-preserved c =
     let loop = c.loop-i in
     let text = c.args.text.now in
     let here = row_cons text loop.i (omega arith) in
-    (omega arith, sym (rw (← pair.ensures, not-false pair.result c.if-not-is_pair.false) at here) ∙ loop.invariant.1)
+    (omega arith, sym (rw (← pair.ensures, c.if-not-is_pair.false) at here) ∙ loop.invariant.1)
 
 pub returns : goal.returns
 returns c =

@@ -40,4 +40,4 @@ returns c =
     let put = c.put_bytes in
     let part = put_part loop.first loop.digits loop.invariant.0 in
     let none = above_over loop.rest (drop loop.first loop.digits) (omega arith) in
-    rw (to_z-of_z w64 put.result (sfits_of put.type-inv)) (rw (part, ← none, loop.invariant.3) at put.ensures)
+    rw (to_z-of_z w64 put.result (sfits_of put.type_inv)) (rw (part, ← none, loop.invariant.3) at put.ensures)
