@@ -9,7 +9,6 @@ use borrow.Author.Tests.{ne_eqb}
 use lib.Dec.{eqb, ltb}
 use lib.ListN.{length, get_or, take, drop, length-drop, get_or-eq_default}
 use lib.Seq.{get_or-take, get_or-drop, take-nil, drop-drop, length-take-le}
-use Rattle.tracks.specs.Track.{unit}
 use Rattle.tracks.specs.Steps.{pair_of, joined, zeros, lone, byte_of}
 
 -- a byte of the m bytes at a place

@@ -34,7 +34,7 @@ put_bytes-requires c =
     let length-as = c.length_as-short in
     let third = c.if-short-le-LONGEST in
     let units = units-of-length 0 args.track.now length-as.result length-as.ensures third.true in
-    (units.within, (units.bytes, omega arith))
+    record { n_in_bounds = units.within; track_value = units.bytes; n_in_bounds_2 = omega arith }
 
 pub returns-then-short-le-LONGEST : goal.returns-then-short-le-LONGEST
 unfolding frame_of longest
@@ -55,7 +55,7 @@ put_bytes-requires-then-long-le-LONGEST c =
     let length-as2 = c.length_as-long in
     let fourth = c.if-long-le-LONGEST in
     let units = units-of-length 1 args.track.now length-as2.result length-as2.ensures fourth.true in
-    (units.within, (units.bytes, omega arith))
+    record { n_in_bounds = units.within; track_value = units.bytes; n_in_bounds_2 = omega arith }
 
 pub returns-then-long-le-LONGEST : goal.returns-then-long-le-LONGEST
 unfolding frame_of longest

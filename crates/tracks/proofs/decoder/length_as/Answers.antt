@@ -1,5 +1,4 @@
 -- `tracks::decoder::length_as` meets its contract: by the tests of LengthWays.antt. Assumes nothing.
-use borrow.Author.Tests.{not-true, not-false}
 use mathlib.Core.Path.{◌≡◌, sym, ◌∙◌}
 use mathlib.Core.Bool.{true, false}
 use Prim.Native.Nat.{◌-◌}
@@ -11,12 +10,6 @@ use Rattle.tracks.specs.Steps.{count_of}
 use Rattle.tracks.proofs.LengthWays.{framed, size-of-framed, length-too-short, length-unframed, length-framed}
 use Rattle.tracks.proofs.Units.{unit_least}
 use Rattle.tracks.proofs.decoder.length_as.Goals as goal
-
-is_framed : (c : tie.Else2) → framed c.before.before.before.before.before.before.before.args.coding c.before.before.before.before.before.before.before.args.track.now ≡ true
-unfolding count_of longest
-is_framed c =
-    rw (← c.before.before.before.before.unit-of.ensures, ← c.before.before.before.byte_at.ensures, ← c.before.before.start_of_lem.ensures, ← c.before.byte-at2.ensures)
-    (not-false _ c.if2.false)
 
 pub returns-then-n-lt2 : goal.returns-then-n-lt2
 unfolding longest
@@ -38,19 +31,29 @@ returns-then-not-framed c =
     let args = c.args in
     let tests : framed args.coding args.track.now ≡ false =
     rw (← c.unit_of-width.ensures, ← c.byte_at.ensures, ← c.start_of.ensures, ← c.byte_at-2.ensures)
-    (not-true _ c.if-not-framed.true) in
+    c.if-not-framed.true in
     sym (length-unframed args.coding args.track.now tests)
 
 pub all_bytes-requires : goal.all_bytes-requires
-unfolding count_of
+unfolding count_of longest
 all_bytes-requires c =
     let args = c.args in
-    rw c.unit_of-width.ensures (omega (arith, size-of-framed args.coding args.track.now (is_framed c)))
+    let tests : framed args.coding args.track.now ≡ true =
+    rw (← c.unit_of-width.ensures, ← c.byte_at.ensures, ← c.start_of.ensures, ← c.byte_at-2.ensures) c.if-not-framed.false in
+    rw c.unit_of-width.ensures (omega (arith, size-of-framed args.coding args.track.now tests))
 
 pub returns-then-all_bytes : goal.returns-then-all_bytes
-unfolding count_of
-returns-then-all_bytes c = sym (length-framed _ _ (is_framed c) ∙ rw (← c.unit_of-width.ensures, ← c.all_bytes.ensures, c.if-all_bytes.true))
+unfolding count_of longest
+returns-then-all_bytes c =
+    let args = c.args in
+    let tests : framed args.coding args.track.now ≡ true =
+    rw (← c.unit_of-width.ensures, ← c.byte_at.ensures, ← c.start_of.ensures, ← c.byte_at-2.ensures) c.if-not-framed.false in
+    sym (length-framed _ _ tests ∙ rw (← c.unit_of-width.ensures, ← c.all_bytes.ensures, c.if-all_bytes.true))
 
 pub returns-else-all_bytes : goal.returns-else-all_bytes
 unfolding count_of longest
-returns-else-all_bytes c = sym (length-framed _ _ (is_framed c) ∙ rw (← c.unit_of-width.ensures, ← c.all_bytes.ensures, c.if-all_bytes.false))
+returns-else-all_bytes c =
+    let args = c.args in
+    let tests : framed args.coding args.track.now ≡ true =
+    rw (← c.unit_of-width.ensures, ← c.byte_at.ensures, ← c.start_of.ensures, ← c.byte_at-2.ensures) c.if-not-framed.false in
+    sym (length-framed _ _ tests ∙ rw (← c.unit_of-width.ensures, ← c.all_bytes.ensures, c.if-all_bytes.false))

@@ -2,7 +2,6 @@
 -- The measure is what is left of the units. Assumes nothing.
 use native.Mathlib.Omega.{arith}
 use mathlib.Core.Path.{◌≡◌, refl, sym, ◌∙◌}
-use mathlib.Core.Bool.{true}
 use lib.ListN.{length, length-set}
 use native.Mathlib.Nat.{mul-zero, sub-zero}
 use Rattle.tracks.proofs.Units.{unit_room}
@@ -16,7 +15,7 @@ unfolding bytes_of
 loop-i-init c =
     let unit-of = c.unit_of-width in
     let asked = c.requires in
-    (omega arith, refl, unit-of.ensures, rw mul-zero, rw sub-zero asked.1.0, sym (placed_none 0 _))
+    (omega arith, refl, unit-of.ensures, rw mul-zero, rw sub-zero asked.track_value, sym (placed_none 0 _))
 
 pub byte_at-requires : goal.byte_at-requires
 byte_at-requires c =
@@ -24,7 +23,7 @@ byte_at-requires c =
     let loop = c.loop-i in
     let test = c.loop-i-test in
     let asked = c.requires in
-    omega (arith, unit_room args.coding loop.i args.n (length args.track.now) test.true asked.0)
+    omega (arith, unit_room args.coding loop.i args.n (length args.track.now) test.true asked.n_in_bounds)
 
 pub overflow_cast-frame : goal.overflow_cast-frame
 overflow_cast-frame c =
@@ -44,7 +43,7 @@ overflow_add-at c =
     let loop = c.loop-i in
     let test = c.loop-i-test in
     let asked = c.requires in
-    omega (arith, unit_room args.coding loop.i args.n (length args.track.now) test.true asked.0)
+    omega (arith, unit_room args.coding loop.i args.n (length args.track.now) test.true asked.n_in_bounds)
 
 pub loop-i-preserved : goal.loop-i-preserved
 loop-i-preserved c =

@@ -5,7 +5,7 @@ use Rattle.tracks.proofs.Zeros.{zeros-more, zeros-done, zeros_none}
 use Rattle.tracks.proofs.decoder.zeros_at.Goals as goal
 
 pub loop-i-init : goal.loop-i-init
-loop-i-init c = c.blanks_at-i.ensures
+loop-i-init c = (c.blanks_at-i.ensures.within, c.blanks_at-i.ensures.passed)
 
 pub returns-then-track-at-ne0 : goal.returns-then-track-at-ne0
 returns-then-track-at-ne0 c =
