@@ -1,30 +1,33 @@
 // The bench program: UIDs, a line each, from standard input or a file; the walk's verdict, rounds and list on standard output.
 #![tactic(auto)]
 
-use libc::STDOUT_FILENO;
+use input::Source;
 
 // Prints what the bench prints of an input.
-fn print(input: &[u8]) {
+fn print(rt: &HostRuntime, input: &[u8]) {
     let mut out = [0u8; 1200];
     let printed = report::bench::bench(input, &mut out);
     let most: &[u8] = &out;
     let count = io::count(printed as isize, most);
-    if !io::write_all(STDOUT_FILENO, &most[..count]) {
-        os::fail(b"espenknoten-bench: standard output");
+    if let Err(error) = rt.write_all(&most[..count]) {
+        input::fail(rt, b"espenknoten-bench: standard output", error);
     }
 }
 
-fn main() {
-    let fd = input::open(b"usage: espenknoten-bench [FILE]\n");
-    if fd < 0 {
-        return;
-    }
+// What is read, to the printed end.
+fn run(rt: &HostRuntime, mut source: Source) {
     // 4096 bytes, more than the 1701 that settle what is printed (printed-of-start, crates/report/proofs/Start.antt)
     let mut room = io::buffer();
-    let came = input::fill(fd, b"espenknoten-bench: input", &mut room);
+    let came = input::fill(rt, &mut source, b"espenknoten-bench: input", &mut room);
     if came.failed {
         return;
     }
     let n = came.count;
-    print(&room[..n]);
+    print(rt, &room[..n]);
+}
+
+fn main(rt: HostRuntime) {
+    if let Some(source) = input::open(&rt, b"usage: espenknoten-bench [FILE]\n") {
+        run(&rt, source);
+    }
 }

@@ -135,16 +135,24 @@ fn put_read(request: Request, answer: &[u8], text: &mut [u8], at: usize) -> usiz
 }
 
 // Tells the answer, what is read of it, and the record.
-fn tell_answer(request: Request, served: Served, room: &[u8], text: &mut [u8], at: usize) -> bool {
+fn tell_answer(
+    rt: &HostRuntime,
+    request: Request,
+    served: Served,
+    room: &[u8],
+    text: &mut [u8],
+    at: usize,
+) -> bool {
     let n = up_to(served.length, room);
     let answered = put_answer(served.number, &room[..n], text, at);
     let read = put_read(request, &room[..n], text, answered);
     let card = served.card;
-    tell_record(card, text, read)
+    tell_record(rt, card, text, read)
 }
 
 // Plays a request that was made.
 fn play_request(
+    rt: &HostRuntime,
     request: Request,
     frame: &[u8],
     card: Card,
@@ -158,11 +166,17 @@ fn play_request(
     let event = Event::Frame(frame.len());
     let served = serve_card(event, frame, card, memory, locks, &mut room);
     let next = served.card;
-    after(next, tell_answer(request, served, &room, text, sent))
+    after(next, tell_answer(rt, request, served, &room, text, sent))
 }
 
 // There is room for any request, so number 7 is the one refusal.
-pub(crate) fn ask(line: &[u8], card: Card, memory: &mut [u8], locks: &mut [u8]) -> Desk {
+pub(crate) fn ask(
+    rt: &HostRuntime,
+    line: &[u8],
+    card: Card,
+    memory: &mut [u8],
+    locks: &mut [u8],
+) -> Desk {
     let mut text = [0u8; MOST_TOLD];
     let mut frame = [0u8; 45];
     let heard = put(line, &mut text, 0);
@@ -170,8 +184,17 @@ pub(crate) fn ask(line: &[u8], card: Card, memory: &mut [u8], locks: &mut [u8]) 
     let made = make(request, line, &mut frame);
     if made < 0 {
         let refused = put_refused(7, &mut text, heard);
-        return after(card, tell_record(card, &mut text, refused));
+        return after(card, tell_record(rt, card, &mut text, refused));
     }
     let n = io::count(made as isize, &frame);
-    play_request(request, &frame[..n], card, memory, locks, &mut text, heard)
+    play_request(
+        rt,
+        request,
+        &frame[..n],
+        card,
+        memory,
+        locks,
+        &mut text,
+        heard,
+    )
 }

@@ -55,6 +55,7 @@ pub(crate) fn serve_card(
 }
 
 pub(crate) fn play(
+    rt: &HostRuntime,
     event: Event,
     line: &[u8],
     frame: &[u8],
@@ -65,17 +66,17 @@ pub(crate) fn play(
     let mut room = [0u8; LONGEST_ANSWER];
     let served = serve_card(event, frame, card, memory, locks, &mut room);
     let next = served.card;
-    after(next, tell(line, served, &room))
+    after(next, tell(rt, line, served, &room))
 }
 
 // Shows the card's memory, a line a block.
-pub(crate) fn show_memory(line: &[u8], card: Card, memory: &[u8]) -> bool {
+pub(crate) fn show_memory(rt: &HostRuntime, line: &[u8], card: Card, memory: &[u8]) -> bool {
     let m = up_to(cells(card), memory);
-    tell_blocks(line, within(card.size, 32), &memory[..m])
+    tell_blocks(rt, line, within(card.size, 32), &memory[..m])
 }
 
 // Shows the card's lock bytes, on one line.
-pub(crate) fn show_locks(line: &[u8], card: Card, locks: &[u8]) -> bool {
+pub(crate) fn show_locks(rt: &HostRuntime, line: &[u8], card: Card, locks: &[u8]) -> bool {
     let n = up_to(within(card.blocks, 256), locks);
-    tell_blocks(line, 256, &locks[..n])
+    tell_blocks(rt, line, 256, &locks[..n])
 }

@@ -11,6 +11,7 @@ mod told;
 ghost use Rattle.std.specs.Prelude.{◌≡◌, ◌<◌, ◌≤◌, min};
 ghost use Rattle.io.specs.Counts.{IsPrefixLen};
 
+use input::Source;
 use lines::Reading;
 use script::Desk;
 
@@ -38,29 +39,46 @@ fn turns_left(turns: u64, is_last: bool) -> u64
 }
 
 // Plays line after line. A proved loop ends, and nothing says that the input does: the turns count down from a number that no run uses up.
-fn play_all(fd: i32, piece: &mut [u8], line: &mut [u8], memory: &mut [u8], locks: &mut [u8]) {
+fn play_all(
+    rt: &HostRuntime,
+    source: &mut Source,
+    piece: &mut [u8],
+    line: &mut [u8],
+    memory: &mut [u8],
+    locks: &mut [u8],
+) {
     let mut reading = Reading::new();
     let mut desk = Desk::new();
-    let mut number = 0;
+    let mut number: u64 = 0;
     let mut turns = u64::MAX;
     while turns > 0 {
-        number = std::num::wrapping_add_u64(number, 1);
-        reading = reading.next_line(fd, piece, line);
+        number = number.wrapping_add(1);
+        reading = reading.next_line(rt, source, piece, line);
         let n = up_to(reading.length, line);
-        desk = desk.hear_line(&line[..n], reading.failed, memory, locks);
+        desk = desk.hear_line(rt, &line[..n], reading.failed, memory, locks);
         turns = turns_left(turns, desk.is_over() | reading.is_over);
     }
-    desk.tell_end(number);
+    desk.tell_end(rt, number);
 }
 
-fn main() {
-    let fd = input::open(b"usage: espenknoten-player [SCRIPT]\n");
-    if fd < 0 {
-        return;
-    }
+// Plays what is read.
+fn run(rt: &HostRuntime, mut source: Source) {
     let mut piece = io::buffer();
     let mut line = [0u8; 257];
     let mut memory = [0u8; 8192];
     let mut locks = [0u8; 256];
-    play_all(fd, &mut piece, &mut line, &mut memory, &mut locks);
+    play_all(
+        rt,
+        &mut source,
+        &mut piece,
+        &mut line,
+        &mut memory,
+        &mut locks,
+    );
+}
+
+fn main(rt: HostRuntime) {
+    if let Some(source) = input::open(&rt, b"usage: espenknoten-player [SCRIPT]\n") {
+        run(&rt, source);
+    }
 }

@@ -151,15 +151,21 @@ impl Desk {
         }
     }
 
-    fn hear_order(self, line: &[u8], memory: &mut [u8], locks: &mut [u8]) -> Desk {
+    fn hear_order(
+        self,
+        rt: &HostRuntime,
+        line: &[u8],
+        memory: &mut [u8],
+        locks: &mut [u8],
+    ) -> Desk {
         let mut frame = [0u8; 86];
         let card = self.card;
         let order = order_of(line, &mut frame);
         match order {
-            Order::Play(event) => play(event, line, &frame, card, memory, locks),
-            Order::Ask => ask(line, card, memory, locks),
-            Order::Memory => after(card, show_memory(line, card, memory)),
-            Order::Locks => after(card, show_locks(line, card, locks)),
+            Order::Play(event) => play(rt, event, line, &frame, card, memory, locks),
+            Order::Ask => ask(rt, line, card, memory, locks),
+            Order::Memory => after(card, show_memory(rt, line, card, memory)),
+            Order::Locks => after(card, show_locks(rt, line, card, locks)),
             Order::Wrong => self.ended(Stage::BadLine),
         }
     }
@@ -167,6 +173,7 @@ impl Desk {
     // Hears a line; one whose reading failed is no line.
     pub(crate) fn hear_line(
         self,
+        rt: &HostRuntime,
         line: &[u8],
         failed: bool,
         memory: &mut [u8],
@@ -184,7 +191,7 @@ impl Desk {
         let stage = self.stage;
         match stage {
             Stage::NoCard => self.hear_card(line),
-            _ => self.hear_order(line, memory, locks),
+            _ => self.hear_order(rt, line, memory, locks),
         }
     }
 
@@ -198,10 +205,10 @@ impl Desk {
     }
 
     // Tells the number of a line that can't be read.
-    pub(crate) fn tell_end(self, number: u64) {
+    pub(crate) fn tell_end(self, rt: &HostRuntime, number: u64) {
         let stage = self.stage;
         if let Stage::BadLine = stage {
-            tell_bad_line(number);
+            tell_bad_line(rt, number);
         }
     }
 }

@@ -9,7 +9,6 @@ ghost use Rattle.player.specs.Record.{mode_text, mask_text, running_text, sequen
 use crate::{least, up_to};
 use card::{Card, Held, Mode, Sequence};
 use frames::LONGEST_ANSWER;
-use libc::STDOUT_FILENO;
 use play::Served;
 
 // Room for all that is told of a line: its 256 bytes, a request of 45, an answer and what is read of it in three for each byte, and the words of
@@ -183,43 +182,45 @@ fn put_blocks(size: usize, bytes: &[u8], text: &mut [u8], at: usize) -> usize {
 }
 
 // Writes a text with a line feed after it. A write that fails is told.
-fn write(text: &mut [u8], at: usize) -> bool {
+fn write(rt: &HostRuntime, text: &mut [u8], at: usize) -> bool {
     let n = up_to(put(b"\n", text, at), text);
-    let is_written = io::write_all(STDOUT_FILENO, &text[..n]);
-    if !is_written {
-        os::fail(b"espenknoten-player: standard output");
+    match rt.write_all(&text[..n]) {
+        Ok(()) => true,
+        Err(error) => {
+            input::fail(rt, b"espenknoten-player: standard output", error);
+            false
+        }
     }
-    is_written
 }
 
 // Ends what is told of an event with the record after it.
-pub(crate) fn tell_record(card: Card, text: &mut [u8], at: usize) -> bool {
+pub(crate) fn tell_record(rt: &HostRuntime, card: Card, text: &mut [u8], at: usize) -> bool {
     let end = put_record(card, text, at);
-    write(text, end)
+    write(rt, text, end)
 }
 
 // Tells a line of the script, the answer to it and the record after it.
-pub(crate) fn tell(line: &[u8], served: Served, room: &[u8]) -> bool {
+pub(crate) fn tell(rt: &HostRuntime, line: &[u8], served: Served, room: &[u8]) -> bool {
     let mut text = [0u8; MOST_TOLD];
     let heard = put(line, &mut text, 0);
     let n = up_to(served.length, room);
     let answer = put_answer(served.number, &room[..n], &mut text, heard);
     let card = served.card;
-    tell_record(card, &mut text, answer)
+    tell_record(rt, card, &mut text, answer)
 }
 
 // Tells a line of the script, and bytes, so many on a line.
-pub(crate) fn tell_blocks(line: &[u8], size: usize, bytes: &[u8]) -> bool {
+pub(crate) fn tell_blocks(rt: &HostRuntime, line: &[u8], size: usize, bytes: &[u8]) -> bool {
     let mut text = [0u8; MOST_TOLD];
     let heard = put(line, &mut text, 0);
     let end = put_blocks(size, bytes, &mut text, heard);
-    write(&mut text, end)
+    write(rt, &mut text, end)
 }
 
 // Tells the number of a line that can't be read.
-pub(crate) fn tell_bad_line(number: u64) {
+pub(crate) fn tell_bad_line(rt: &HostRuntime, number: u64) {
     let mut text = [0u8; 32];
     let at = put(b"bad line ", &mut text, 0);
     let end = io::count(digits::put_decimal(number, &mut text, at) as isize, &text);
-    write(&mut text, end);
+    write(rt, &mut text, end);
 }
