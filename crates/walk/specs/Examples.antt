@@ -33,7 +33,7 @@ pub record Walks : Type 0 where
   pub level_12_marked : (w : Walk) → levels_of w ≡ 14 → w.level ≡ 12 → walk_after w Clashed (has_place w) ≡ passed (marked w)
   pub level_13_twins : (w : Walk) → levels_of w ≡ 14 → 4 * w.level ≡ 0x34 → walk_after w Clashed (has_place w) ≡ ended twins w
   -- "a clean reply whose UID doesn't start with E0 is a clash": bytes with any other UID, however many are listed
-  pub starts_e0 : (uid : ℕ) → starts_e0 14 uid ≡ eqb (uid / 2 ^ 56) 0xe0
+  pub fourteen_starts_e0 : (uid : ℕ) → starts_e0 14 uid ≡ eqb (uid / 2 ^ 56) 0xe0
   pub foreign_clashes : (w : Walk) (bytes : List ℕ) → levels_of w ≡ 14 → (uid_of bytes / 2 ^ 56 ≡ 0xe0 → ⊥) → judged w Bytes bytes ≡ Clashed
   pub foreign_not_full : (w : Walk) (bytes : List ℕ) → levels_of w ≡ 14 → (uid_of bytes / 2 ^ 56 ≡ 0xe0 → ⊥) → w.level ≡ 12 → w.count ≡ 64
       → walk_after w (judged w Bytes bytes) (has_place w) ≡ passed (marked w)
@@ -46,10 +46,10 @@ pub record Walks : Type 0 where
       && (leb (deepest w.marks) (w.level + 1) && ltb (deepest w.marks) 14)))))))
   -- "fourteen levels", and sixteen slots in each of 417 rounds
   pub fourteen_levels : (family : ℕ) → levels_of (started family) ≡ 14
-  pub most_rounds : most_rounds 14 ≡ 417
+  pub fourteen_most_rounds : most_rounds 14 ≡ 417
   -- "at most 1 + 15 × (n / 2 rounded down)", with 64 cards and a level more than these 15; 02's 13 likewise
   pub rounds_of_levels : (n : ℕ) → most_rounds (n + 1) ≡ 1 + n * (64 / 2)
-  pub most_slots : most_slots 14 ≡ 16 * 417
+  pub fourteen_most_slots : most_slots 14 ≡ 16 * 417
   -- its longest request, of mask length 34 and with a family, has a byte less than the 14 that number 8 asks for
   pub longest_request : (w : Walk) → levels_of w ≡ 14 → is_accepted w ≡ true → length (request w) ≤ 13
   -- 01's walk: "its 16 levels", "481 for 64", "overrun (round 482 would be needed)", "twins (a clash at k=15, at once)", number 10 as it was; and of a UID of

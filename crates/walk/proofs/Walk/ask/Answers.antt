@@ -34,7 +34,10 @@ fill-requires c =
     let send = c.send-send in
     let served = served_of_refusal args.self (length args.room.now) _ refusal.ensures first.false in
     let long : length args.self.marks ≡ levels = search rules in
-    (omega (arith, long, (accepted_of_is_accepted args.self served.accepted).level), rw send.ensures served.enough)
+    record {
+      level_bound = omega (arith, long, (accepted_of_is_accepted args.self served.accepted).level);
+      send_in_bounds = rw send.ensures served.enough;
+    }
 
 pub returns : goal.returns
 returns c =

@@ -30,7 +30,10 @@ unfolding has_place places
 take-requires c =
     let args = c.args in
     let served = served_of_refusal args.self (length args.list.now) _ c.refusal-number.ensures c.if-number-ne0.false in
-    (served.accepted, λ h. let few = place_below args.self h in (few, omega (arith, few, served.list)))
+    record {
+      walk_value = served.accepted;
+      count_bound = λ h. let few = place_below args.self h in (few, omega (arith, few, served.list));
+    }
 
 pub returns : goal.returns
 unfolding has_place places

@@ -23,11 +23,22 @@ judge-slot-requires c =
     let long : length args.self.marks ≡ levels = search rules in
     omega (arith, long, (accepted_of_is_accepted args.self served.accepted).level)
 
+pub overflow_cast-rack : goal.overflow_cast-rack
+overflow_cast-rack c =
+    let args = c.args in
+    let served = shared_served_of args.self args.rack (length args.rows.now) args.owners.now (sym c.hear_refusal-number.ensures ∙ c.if-number-ne0.false) in
+    omega (arith, served.is_rack)
+
 pub take_row-requires : goal.take_row-requires
 take_row-requires c =
     let args = c.args in
     let served = shared_served_of args.self args.rack (length args.rows.now) args.owners.now (sym c.hear_refusal-number.ensures ∙ c.if-number-ne0.false) in
-    (served.accepted, (served.room, ((owners_fit_of args.owners.now served.marks).0, served.counts)))
+    record {
+      walk_value = served.accepted;
+      in_bounds = served.room;
+      in_bounds_2 = (owners_fit_of args.owners.now served.marks).0;
+      count_value = served.counts;
+    }
 
 pub returns : goal.returns
 returns c =

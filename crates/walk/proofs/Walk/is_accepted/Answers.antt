@@ -1,6 +1,6 @@
 -- `walk::Walk::is_accepted` meets its contract: the definition goes by the same tests (Limits.antt). Assumes nothing.
 use borrow.Author.Rules.{rules}
-use borrow.Author.Tests.{le-ltb, not-true, not-false}
+use borrow.Author.Tests.{le-ltb}
 use mathlib.Core.Path.{◌≡◌}
 use mathlib.Core.Bool.{true, false}
 use native.Mathlib.Omega.{arith}
@@ -21,7 +21,7 @@ unfolding levels most_rounds
 returns-then-not-numbers c =
     let w = c.args.self in
     let long : length w.marks ≡ levels = search rules in
-    let numbers : numbers_fit w ≡ false = rw long (not-true _ c.if-not-numbers.true) in
+    let numbers : numbers_fit w ≡ false = rw long (c.if-not-numbers.true) in
     rw (is_accepted_by_tests w (omega (arith, long, c.if-self-gt-LAST_LEVEL.false)), numbers)
 
 pub returns-then-not-is_below : goal.returns-then-not-is_below
@@ -30,14 +30,14 @@ returns-then-not-is_below c =
     let w = c.args.self in
     let good = c.well_formed in
     let long : length w.marks ≡ levels = search (rules, good) in
-    let numbers : numbers_fit w ≡ true = rw long (not-false _ c.if-not-numbers.false) in
+    let numbers : numbers_fit w ≡ true = rw long (c.if-not-numbers.false) in
     let is_below = c.is_below in
     rw (
       is_accepted_by_tests w (omega (arith, long, c.if-self-gt-LAST_LEVEL.false)),
       numbers,
       ← c.mask.ensures,
       ← is_below.ensures,
-      not-true is_below.result c.if-not-is_below.true,
+      c.if-not-is_below.true,
     )
 
 pub returns : goal.returns
@@ -46,13 +46,13 @@ returns c =
     let w = c.args.self in
     let good = c.well_formed in
     let long : length w.marks ≡ levels = search (rules, good) in
-    let numbers : numbers_fit w ≡ true = rw long (not-false _ c.if-not-numbers.false) in
+    let numbers : numbers_fit w ≡ true = rw long (c.if-not-numbers.false) in
     let is_below = c.is_below in
     rw (
       is_accepted_by_tests w (omega (arith, long, c.if-self-gt-LAST_LEVEL.false)),
       numbers,
       ← c.mask.ensures,
       ← is_below.ensures,
-      not-false is_below.result c.if-not-is_below.false,
+      c.if-not-is_below.false,
     )
     c.marks_fit.ensures

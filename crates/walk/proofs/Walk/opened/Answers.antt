@@ -28,7 +28,7 @@ pub opened_mask-mask-requires : goal.opened_mask-mask-requires
 unfolding levels
 opened_mask-mask-requires c =
     let long : length c.args.self.marks ≡ levels = search rules in
-    (omega (arith, long), rw c.lowest-s.ensures (lowest_is_slot _))
+    record { j_bound = omega (arith, long); s_bound = rw c.lowest-s.ensures (lowest_is_slot _) }
 
 pub overflow_add-self-2 : goal.overflow_add-self-2
 unfolding levels

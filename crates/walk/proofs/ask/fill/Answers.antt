@@ -7,7 +7,7 @@ use Rattle.walk.proofs.ask.fill.Goals as goal
 pub put_body-n-requires : goal.put_body-n-requires
 put_body-n-requires c =
     let asked = c.requires in
-    (asked.0, room_of_request c.in-Request.is asked.1)
+    record { level_bound = asked.level_bound; in_bounds = room_of_request c.in-Request.is asked.send_in_bounds }
 
 pub returns-in-Nothing : goal.returns-in-Nothing
 unfolding room_after
@@ -23,5 +23,5 @@ returns-in-Request c =
     let start = c in
     let told = c.in-Request.is in
     rw told
-    (seals_body start.args.walk start.args.room.now c.put_body-n.ensures c.seal.ensures start.requires.0
-    (room_of_request told start.requires.1))
+    (seals_body start.args.walk start.args.room.now c.put_body-n.ensures c.seal.ensures start.requires.level_bound
+    (room_of_request told start.requires.send_in_bounds))

@@ -11,6 +11,9 @@ bounds-room-at c =
     let short = length_head_most w in
     omega (arith, head.count, short, length_puts head (omega arith))
 
+pub overflow_add-at : goal.overflow_add-at
+overflow_add-at c = omega (arith, c.put_head-at.ensures.count, length_head_most c.args.walk)
+
 pub overflow_add-result : goal.overflow_add-result
 overflow_add-result c = omega (arith, c.put_head-at.ensures.count, length_head_most c.args.walk)
 
@@ -18,11 +21,11 @@ pub overflow_add-result-2 : goal.overflow_add-result-2
 overflow_add-result-2 c =
     let start = c in
     let w = start.args.walk in
-    let few = mask_bytes_most w.level start.requires.0 in
+    let few = mask_bytes_most w.level start.requires.level_bound in
     omega (arith, c.put_head-at.ensures.count, length_head_most w, c.mask_bytes-bytes.ensures, few)
 
 pub returns : goal.returns
 returns c =
     let start = c in
     puts_body start.args.walk start.args.room.now c.put_head-at.ensures c.mask_bytes-bytes.ensures
-    (rw c.mask.ensures at c.put_field.ensures) start.requires.0 start.requires.1
+    (rw c.mask.ensures at c.put_field.ensures) start.requires.level_bound start.requires.in_bounds

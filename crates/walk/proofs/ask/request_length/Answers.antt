@@ -29,3 +29,10 @@ returns-else-has_family c =
     let has-family = c.has_family in
     let first = c.if-has_family in
     rw mask-bytes.ensures (sym (length_no_family args.walk (sym has-family.ensures ∙ first.false)))
+
+pub overflow_add-result-else-has_family : goal.overflow_add-result-else-has_family
+overflow_add-result-else-has_family c =
+    let mask-bytes = c.mask_bytes-bytes in
+    let args = c.args in
+    let asked = c.requires in
+    omega (arith, mask-bytes.ensures, mask_bytes_most args.walk.level (asked))

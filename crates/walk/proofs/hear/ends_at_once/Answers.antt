@@ -17,31 +17,27 @@ returns-in-Silent c = rw c.in-Silent.is
 pub returns-then-walk-lt-LAST_LEVEL : goal.returns-then-walk-lt-LAST_LEVEL
 unfolding levels ends_at_once levels_of
 returns-then-walk-lt-LAST_LEVEL c =
-    let enum-told2 = c.enum_told-in-Clashed-1 in
     let args = c.args in
     let first = c.if-walk-lt-LAST_LEVEL in
     let long : length args.walk.marks ≡ levels = search rules in
-    rw (enum-told2.given.1, long, lt-ltb (args.walk.level + 1) levels (omega (arith, first.true)))
+    rw (c.in-Clashed.is, long, lt-ltb (args.walk.level + 1) levels (omega (arith, first.true)))
 
 pub returns-else-walk-lt-LAST_LEVEL : goal.returns-else-walk-lt-LAST_LEVEL
 unfolding levels ends_at_once levels_of
 returns-else-walk-lt-LAST_LEVEL c =
-    let enum-told2 = c.enum_told-in-Clashed-1 in
     let args = c.args in
     let first = c.if-walk-lt-LAST_LEVEL in
     let long : length args.walk.marks ≡ levels = search rules in
-    rw (enum-told2.given.1, long, le-ltb (args.walk.level + 1) levels (omega (arith, first.false)))
+    rw (c.in-Clashed.is, long, le-ltb (args.walk.level + 1) levels (omega (arith, first.false)))
 
 pub returns-then-place : goal.returns-then-place
 unfolding ends_at_once
 returns-then-place c =
-    let enum-told3 = c.enum_told-in-Clean-1 in
     let second = c.if-place in
-    rw (enum-told3.given.1, second.true)
+    rw (c.in-Clean.is, second.true)
 
 pub returns-else-place : goal.returns-else-place
 unfolding ends_at_once
 returns-else-place c =
-    let enum-told3 = c.enum_told-in-Clean-1 in
     let second = c.if-place in
-    rw (enum-told3.given.1, second.false)
+    rw (c.in-Clean.is, second.false)

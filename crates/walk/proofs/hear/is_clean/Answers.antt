@@ -1,6 +1,6 @@
 -- `walk::hear::is_clean` meets its contract: the definition goes by the same five tests. Assumes nothing.
 use borrow.Author.Rules.{rules}
-use borrow.Author.Tests.{eq-eqb, ne_eqb, not-true, not-false}
+use borrow.Author.Tests.{eq-eqb, ne_eqb}
 use mathlib.Core.Path.{◌≡◌}
 use lib.ListN.{length}
 use Rattle.walk.specs.Marks.{levels}
@@ -18,7 +18,7 @@ returns-then-not-is_sealed c =
     let first = c.if-bytes-ne12 in
     let is-sealed = c.is_sealed in
     let second = c.if-not-is_sealed in
-    rw (eq-eqb _ _ first.false, ← is-sealed.ensures, not-true is-sealed.result second.true)
+    rw (eq-eqb _ _ first.false, ← is-sealed.ensures, second.true)
 
 pub returns-then-bytes-ne0 : goal.returns-then-bytes-ne0
 unfolding is_clean mask_length
@@ -27,7 +27,7 @@ returns-then-bytes-ne0 c =
     let is-sealed = c.is_sealed in
     let second = c.if-not-is_sealed in
     let third = c.if-bytes-ne0 in
-    rw (eq-eqb _ _ first.false, ← is-sealed.ensures, not-false is-sealed.result second.false, ne_eqb _ _ third.true)
+    rw (eq-eqb _ _ first.false, ← is-sealed.ensures, second.false, ne_eqb _ _ third.true)
 
 pub returns : goal.returns
 unfolding is_clean mask_length levels levels_of
@@ -41,9 +41,9 @@ returns c =
     rw (
       eq-eqb _ _ first.false,
       ← is-sealed.ensures,
-      not-false is-sealed.result second.false,
+      second.false,
       eq-eqb _ _ third.false,
-      ← start.requires.1,
+      ← start.requires.uid_value,
       ← c.mask.ensures,
       long,
       c.fits_slot.ensures,

@@ -13,9 +13,8 @@ returns-in-Clash c = rw c.in-Clash.is
 pub returns-then-is_clean : goal.returns-then-is_clean
 unfolding judged
 returns-then-is_clean c =
-    let enum-told3 = c.enum_told-in-Bytes-1 in
     let uid-of = c.uid_of-uid in
-    rw (enum-told3.given.1, ← c.is_clean.ensures, c.if-is_clean.true, uid-of.ensures)
+    rw (c.in-Bytes.is, ← c.is_clean.ensures, c.if-is_clean.true, uid-of.ensures)
 
 pub returns-else-is_clean : goal.returns-else-is_clean
 unfolding judged

@@ -7,8 +7,8 @@ use Rattle.walk.proofs.hear.note.Goals as goal
 pub marked-requires : goal.marked-requires
 marked-requires c =
     let start = c in
-    let facts = accepted_of_is_accepted start.args.walk start.requires.0 in
-    (facts.level, omega (arith, facts.slot))
+    let facts = accepted_of_is_accepted start.args.walk start.requires.walk_value in
+    record { level_in_bounds = facts.level; slot_bound = omega (arith, facts.slot) }
 
 pub bounds-list-at : goal.bounds-list-at
 bounds-list-at c = (c.requires.by_index _ c.in-Clean.is).1

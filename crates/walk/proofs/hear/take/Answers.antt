@@ -12,13 +12,13 @@ pub note-requires : goal.note-requires
 note-requires c =
     let start = c in
     let goes_on = sym c.ends_at_once-ending.ensures ∙ c.if-ending-ne0.false in
-    (start.requires.0, λ uid is. start.requires.1 (clean_goes_on start.args.walk {uid = uid} is goes_on))
+    record { walk_value = start.requires.walk_value; by_index = λ uid is. start.requires.count_bound (clean_goes_on start.args.walk {uid = uid} is goes_on) }
 
 pub pass-requires : goal.pass-requires
 pass-requires c =
     let start = c in
     let goes_on = sym c.ends_at_once-ending.ensures ∙ c.if-ending-ne0.false in
-    rw c.note.ensures.walk_left (noted-facts start.args.walk (accepted_of_is_accepted start.args.walk start.requires.0) start.args.place (λ h. (start.requires.1 h).0) start.args.slot goes_on).last_level
+    rw c.note.ensures.walk_left (noted-facts start.args.walk (accepted_of_is_accepted start.args.walk start.requires.walk_value) start.args.place (λ h. (start.requires.count_bound h).0) start.args.slot goes_on).last_level
 
 pub returns : goal.returns
 returns c =

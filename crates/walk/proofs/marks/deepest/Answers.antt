@@ -10,8 +10,12 @@ use Rattle.walk.proofs.marks.deepest.Goals as goal
 pub loop-n-init : goal.loop-n-init
 unfolding levels deepest
 loop-n-init c =
-    let long : length c.args.t1 ≡ levels = search rules in
-    (omega arith, ap (deepest_of c.args.t1) (sym long))
+    let long : length c.args.marks ≡ levels = search rules in
+    (omega arith, ap (deepest_of c.args.marks) (sym long))
+
+pub offset_bounds-marks-level : goal.offset_bounds-marks-level
+unfolding levels
+offset_bounds-marks-level c = omega arith
 
 pub bounds-marks-level : goal.bounds-marks-level
 unfolding levels

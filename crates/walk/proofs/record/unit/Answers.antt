@@ -13,4 +13,4 @@ returns c =
     let asked = c.requires in
     let j = args.j in
     let power = bit_at (4 * j) (omega arith) in
-    (power, rw power (unit_most j (asked)))
+    record { value = power; upper_bound = rw power (unit_most j asked) }

@@ -1,11 +1,11 @@
 -- `walk::shared::free_rows` meets its contract. The loop's invariant: the rows so far are freed, the others as found. Assumes nothing.
 use mathlib.Core.Path.{◌≡◌, refl, sym, ap, ◌∙◌}
-use mathlib.Core.Logic.{⊎_elim}
 use Prim.Native.Nat.{ℕ, ◌+◌, ◌<◌}
 use native.Mathlib.Omega.{arith}
 use lib.ListN.{length}
 use Rattle.walk.proofs.OwnersSteps.{freed_to, freed_to_none, freed_to_all, length_freed_to, row_freed, row_kept}
 use Rattle.walk.proofs.shared.free_rows.Goals as goal
+use Rattle.walk.proofs.shared.free_rows.Goals.{then-owners-i, else-owners-i}
 
 pub loop-i-init : goal.loop-i-init
 loop-i-init c = (omega arith, refl, sym (freed_to_none _ _))
@@ -15,11 +15,11 @@ loop-i-preserved c =
     let args = c.args in
     let loop = c.loop-i in
     let within : loop.i < length args.owners.now = omega arith in
-    let left =
-    ⊎_elim
-    (λ w. row_freed args.rack loop.i args.owners.now loop.owners c.if-owners-i.owners within loop.invariant.2 w.0.taken w.1)
-    (λ w. row_kept args.rack loop.i args.owners.now loop.owners c.if-owners-i.owners within loop.invariant.2 w.0.left w.1)
-    c.if-owners-i.branch
+    let left : c.if-owners-i.owners ≡ freed_to args.rack (loop.i + 1) args.owners.now =
+    elim c.if-owners-i.branch [
+      | then-owners-i w ↦ row_freed args.rack loop.i args.owners.now loop.owners c.if-owners-i.owners within loop.invariant.2 w.if-owners-i.true w.owners-is
+      | else-owners-i w ↦ row_kept args.rack loop.i args.owners.now loop.owners c.if-owners-i.owners within loop.invariant.2 w.if-owners-i.false w.owners-is
+    ]
     in
     (omega arith, ap length left ∙ length_freed_to args.rack (loop.i + 1) args.owners.now (omega arith), left)
 

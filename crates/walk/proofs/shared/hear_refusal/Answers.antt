@@ -1,6 +1,6 @@
 -- `walk::shared::hear_refusal` meets its contract: the definition goes by the same tests, in the order of the page (SharedTests.antt).
 -- Assumes nothing.
-use borrow.Author.Tests.{not-true, not-false, eq-eqb, ne_eqb, le-leb, lt-leb}
+use borrow.Author.Tests.{eq-eqb, ne_eqb, le-leb, lt-leb}
 use Rattle.walk.specs.Record.{places, is_running}
 use Rattle.walk.specs.Shared.{is_rack, list_fits, hear_refusal}
 use Rattle.walk.proofs.SharedTests.{shares_most, owners_few, owners_told, shares_told}
@@ -15,7 +15,7 @@ unfolding hear_refusal is_rack
 returns-then-not-is_accepted c =
     let first = c.if-rack-gt1 in
     let is-accepted = c.is_accepted in
-    rw (le-leb _ _ first.false, ← is-accepted.ensures, not-true is-accepted.result c.if-not-is_accepted.true)
+    rw (le-leb _ _ first.false, ← is-accepted.ensures, c.if-not-is_accepted.true)
 
 pub returns-then-walk-ne0 : goal.returns-then-walk-ne0
 unfolding hear_refusal is_rack is_running
@@ -26,7 +26,7 @@ returns-then-walk-ne0 c =
     rw (
       le-leb _ _ first.false,
       ← is-accepted.ensures,
-      not-false is-accepted.result second.false,
+      second.false,
       ne_eqb _ _ c.if-walk-ne0.true,
     )
 
@@ -39,7 +39,7 @@ returns-then-rows-lt64 c =
     rw (
       le-leb _ _ first.false,
       ← is-accepted.ensures,
-      not-false is-accepted.result second.false,
+      second.false,
       eq-eqb _ _ c.if-walk-ne0.false,
       lt-leb _ _ c.if-rows-lt64.true,
     )
@@ -53,7 +53,7 @@ returns-then-owners-lt64 c =
     rw (
       le-leb _ _ first.false,
       ← is-accepted.ensures,
-      not-false is-accepted.result second.false,
+      second.false,
       eq-eqb _ _ c.if-walk-ne0.false,
       le-leb _ _ c.if-rows-lt64.false,
       owners_few _ c.if-owners-lt64.true,
@@ -77,11 +77,11 @@ returns-then-not-are_marks c =
     rw (
       le-leb _ _ first.false,
       ← is-accepted.ensures,
-      not-false is-accepted.result second.false,
+      second.false,
       eq-eqb _ _ third.false,
       le-leb _ _ fourth.false,
       ← told,
-      not-true are-marks.result c.if-not-are_marks.true,
+      c.if-not-are_marks.true,
     )
 
 pub returns-then-shares_fit : goal.returns-then-shares_fit
@@ -101,11 +101,11 @@ returns-then-shares_fit c =
     rw (
       le-leb _ _ first.false,
       ← is-accepted.ensures,
-      not-false is-accepted.result second.false,
+      second.false,
       eq-eqb _ _ third.false,
       le-leb _ _ fourth.false,
       ← told,
-      not-false are-marks.result c.if-not-are_marks.false,
+      c.if-not-are_marks.false,
       ← fit,
       c.if-shares_fit.true,
     )
@@ -127,11 +127,11 @@ returns-else-shares_fit c =
     rw (
       le-leb _ _ first.false,
       ← is-accepted.ensures,
-      not-false is-accepted.result second.false,
+      second.false,
       eq-eqb _ _ third.false,
       le-leb _ _ fourth.false,
       ← told,
-      not-false are-marks.result c.if-not-are_marks.false,
+      c.if-not-are_marks.false,
       ← fit,
       c.if-shares_fit.false,
     )

@@ -23,7 +23,7 @@ returns-then-n-eq0 c =
 pub opened-requires : goal.opened-requires
 opened-requires c =
     let n = c.deepest-n.ensures in
-    (omega (arith, n), omega arith)
+    record { j_in_bounds = omega (arith, n); rounds_bound = omega arith }
 
 pub returns-then-walk-lt-MOST_ROUNDS : goal.returns-then-walk-lt-MOST_ROUNDS
 unfolding levels passed most_rounds
