@@ -11,7 +11,7 @@ pub put_all-requires : goal.put_all-requires
 put_all-requires c = simp length-set (omega arith)
 
 pub bounds-track-n : goal.bounds-track-n
-bounds-track-n c = omega (arith, simp length-set at c.put_all.auto.1.0)
+bounds-track-n c = omega (arith, simp length-set at c.put_all.auto.track)
 
 pub returns : goal.returns
 unfolding answer_track

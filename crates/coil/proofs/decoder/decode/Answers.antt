@@ -4,7 +4,6 @@ use native.Mathlib.Nat.{zero-add}
 use mathlib.Core.Path.{sym, ◌∙◌}
 use Prim.Native.Nat.{◌-◌, ◌/◌}
 use lib.ListN.{length}
-use borrow.Author.Tests.{not-false, not-true}
 use mir.ValLaws.{to_z_pos}
 use mir.Syntax.{w64}
 use Rattle.coil.specs.Decoder.{bytes_in}
@@ -24,7 +23,7 @@ returns-then-not-is_framed c =
     let first = c.if-answer-lt-LONGEST_ANSWER in
     let is_framed = c.is_framed in
     let second = c.if-not-is_framed in
-    decodes-no-track args.track.now args.answer.now first.false (sym is_framed.ensures ∙ not-true _ second.true)
+    decodes-no-track args.track.now args.answer.now first.false (sym is_framed.ensures ∙ second.true)
 
 pub overflow_sub-n : goal.overflow_sub-n
 overflow_sub-n c =
@@ -32,7 +31,7 @@ overflow_sub-n c =
     let is_framed = c.is_framed in
     let second = c.if-not-is_framed in
     let t = args.track.now in
-    let framed = sym is_framed.ensures ∙ not-false _ second.false in
+    let framed = sym is_framed.ensures ∙ second.false in
     omega (arith, framed-length t framed)
 
 pub first_bad-k-requires : goal.first_bad-k-requires
@@ -41,8 +40,14 @@ first_bad-k-requires c =
     let is_framed = c.is_framed in
     let second = c.if-not-is_framed in
     let t = args.track.now in
-    let framed = sym is_framed.ensures ∙ not-false _ second.false in
+    let framed = sym is_framed.ensures ∙ second.false in
     (omega (arith, framed-length t framed), omega (arith, framed-most t framed))
+
+pub overflow_mul-n-2 : goal.overflow_mul-n-2
+overflow_mul-n-2 c =
+    let t = c.args.track.now in
+    let framed = sym c.is_framed.ensures ∙ c.if-not-is_framed.false in
+    omega (arith, framed-most t framed)
 
 pub put_bytes-requires : goal.put_bytes-requires
 put_bytes-requires c =
@@ -50,8 +55,8 @@ put_bytes-requires c =
     let is_framed = c.is_framed in
     let second = c.if-not-is_framed in
     let t = args.track.now in
-    let framed = sym is_framed.ensures ∙ not-false _ second.false in
-    (omega (arith, framed-length t framed), omega (arith, framed-most t framed))
+    let framed = sym is_framed.ensures ∙ second.false in
+    record { n_in_bounds = omega (arith, framed-length t framed); n_in_bounds_2 = omega (arith, framed-most t framed) }
 
 pub returns-then-n-k : goal.returns-then-n-k
 unfolding longest_answer bytes_in
@@ -64,7 +69,7 @@ returns-then-n-k c =
     let room = c.if-answer-lt-LONGEST_ANSWER in
     let third = c.if-n-k in
     let t = args.track.now in
-    let framed = sym is_framed.ensures ∙ not-false _ second.false in
+    let framed = sym is_framed.ensures ∙ second.false in
     let place = first_bad_is t first-bad.result first-bad.ensures in
     let way = decodes-answer t args.answer.now room.false framed (rw place at third.true) in
     rw (to_z_pos w64 ((length t - 2) / 2) (omega (arith, framed-most t framed)), put-bytes.ensures) (rw zero-add at way)
@@ -76,7 +81,7 @@ bad_bit-requires c =
     let second = c.if-not-is_framed in
     let third = c.if-n-k in
     let t = args.track.now in
-    let framed = sym is_framed.ensures ∙ not-false _ second.false in
+    let framed = sym is_framed.ensures ∙ second.false in
     (omega (arith, framed-length t framed, third.false), omega (arith, framed-most t framed, third.false))
 
 pub overflow_cast-result-2 : goal.overflow_cast-result-2
@@ -86,7 +91,7 @@ overflow_cast-result-2 c =
     let second = c.if-not-is_framed in
     let first-bad = c.first_bad-k in
     let t = args.track.now in
-    let framed = sym is_framed.ensures ∙ not-false _ second.false in
+    let framed = sym is_framed.ensures ∙ second.false in
     rw c.bad_bit.ensures (omega (arith, framed-most t framed, bad_bit_most t first-bad.result))
 
 pub returns : goal.returns
@@ -99,7 +104,7 @@ returns c =
     let first-bad = c.first_bad-k in
     let third = c.if-n-k in
     let t = args.track.now in
-    let framed = sym is_framed.ensures ∙ not-false _ second.false in
+    let framed = sym is_framed.ensures ∙ second.false in
     let place = first_bad_is t first-bad.result first-bad.ensures in
     let most = bad_bit_most t first-bad.result in
     rw (c.bad_bit.ensures, to_z_pos w64 (bad_bit t first-bad.result) (omega (arith, framed-most t framed, most)), place)

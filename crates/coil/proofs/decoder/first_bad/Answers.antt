@@ -3,7 +3,6 @@
 use native.Mathlib.Omega.{arith}
 use native.Mathlib.Nat.{zero-add}
 use mathlib.Core.Path.{sym, ◌∙◌}
-use mathlib.Core.Bool.{false}
 use Prim.Native.Nat.{◌*◌}
 use Rattle.coil.proofs.Flaws.{first_of_most, pass_byte, first_in_byte}
 use Rattle.coil.proofs.First.{first_none}
@@ -11,7 +10,7 @@ use Rattle.coil.specs.Decoder.{is_bad}
 use Rattle.coil.proofs.decoder.first_bad.Goals as goal
 
 pub loop-i-init : goal.loop-i-init
-loop-i-init c = c.good_bytes-i.ensures
+loop-i-init c = (c.good_bytes-i.ensures.within, c.good_bytes-i.ensures.passed)
 
 pub overflow_add-result : goal.overflow_add-result
 overflow_add-result c = rw c.first_of.ensures (omega (arith, first_of_most c.flaws_of-flaws.result))

@@ -2,9 +2,9 @@
 -- j bytes stand in the answer. The measures are what is left of them. Assumes nothing.
 use native.Mathlib.Omega.{arith}
 use mathlib.Core.Path.{◌≡◌, refl, sym}
-use Prim.Native.Nat.{◌+◌, ◌*◌}
-use lib.ListN.{length-set}
-use Rattle.coil.proofs.Bytes.{placed_bytes_suc, fours_suc}
+use Prim.Native.Nat.{ℕ, ◌+◌, ◌*◌}
+use lib.ListN.{get_or, length-set}
+use Rattle.coil.proofs.Bytes.{four_bits_most, placed_bytes_suc, fours_suc}
 use Rattle.coil.specs.Decoder.{bytes_from}
 use Rattle.lent.proofs.Over.{placed_none}
 use Rattle.coil.proofs.decoder.put_sixteen.Goals as goal
@@ -22,6 +22,21 @@ loop-k-preserved c =
 pub loop-j-init : goal.loop-j-init
 unfolding bytes_from
 loop-j-init c = (omega arith, refl, sym (placed_none _ _))
+
+pub overflow_mul-answer-in-loop-j-2 : goal.overflow_mul-answer-in-loop-j-2
+overflow_mul-answer-in-loop-j-2 c =
+    let args = c.args in
+    let odd : ℕ = 2 * c.loop-j.j + 1 in
+    rw (c.loop-k.invariant.2 odd (omega arith)) (omega (arith, four_bits_most (get_or args.track.now (args.at + odd) 0)))
+
+pub overflow_add-answer-in-loop-j : goal.overflow_add-answer-in-loop-j
+overflow_add-answer-in-loop-j c =
+    let args = c.args in
+    let loop = c.loop-k in
+    let even : ℕ = 2 * c.loop-j.j in
+    let low = four_bits_most (get_or args.track.now (args.at + even) 0) in
+    let high = four_bits_most (get_or args.track.now (args.at + (even + 1)) 0) in
+    rw (loop.invariant.2 even (omega arith), loop.invariant.2 (even + 1) (omega arith)) (omega (arith, low, high))
 
 pub loop-j-preserved : goal.loop-j-preserved
 loop-j-preserved c =
