@@ -2,10 +2,9 @@
 -- cases on the tests. Assumes nothing.
 use mathlib.Core.Path.{◌≡◌, refl}
 use mathlib.Core.Bool.{Bool, true, false, cond, not, ◌&&◌, ◌||◌}
-use mathlib.Core.List.{List, [], ◌∷◌}
+use mathlib.Core.List.{List}
 use Prim.Native.Nat.{ℕ, ◌≤◌}
 use native.Mathlib.Omega.{arith}
-use types.Run.{OneOf, miss}
 use lib.Dec.{ltb, eqb}
 use lib.ListN.{length, get_or}
 use Rattle.frames.specs.declared.Flags.{Flags}
@@ -14,8 +13,6 @@ use Rattle.frames.specs.Frame.{is_sound}
 use Rattle.card.specs.declared.Card.{Card}
 use Rattle.card.specs.declared.Mode.{Mode}
 use Rattle.card.specs.declared.Reply.{Reply}
-use denote.Enum.Declared.{tag_of}
-use Rattle.card.specs.contracts.Reply.{the_type}
 use Rattle.card.specs.declared.Reply.TheVariants.{Silence, Error, Done, Present, Blocks, Status, Information}
 use Rattle.card.specs.declared.Held.TheVariants.{Success}
 use Rattle.commands.specs.declared.Effect.{Effect}
@@ -30,10 +27,10 @@ use Rattle.commands.specs.Request.{deed, silent, fault, done, failed, commanded,
 use Rattle.commands.specs.Verdict.{verdict, changed, kept, made, turned, fault_of, to_whom, body_place, heeded}
 
 -- all but an error are held as success
-pub kept_success : (reply : Reply) → OneOf (0 ∷ 2 ∷ 3 ∷ 4 ∷ 5 ∷ 6 ∷ []) (tag_of the_type reply) → Success ≡ kept reply
+pub kept_success : (reply : Reply) → ((code : ℕ) → reply ≡ Error code → ⊥) → Success ≡ kept reply
 unfolding kept
 kept_success Silence h = refl
-kept_success (Error code) h = absurd (miss (0 ∷ 2 ∷ 3 ∷ 4 ∷ 5 ∷ 6 ∷ []) 1 tt h)
+kept_success (Error code) h = absurd (h code refl)
 kept_success Done h = refl
 kept_success Present h = refl
 kept_success (Blocks first n option) h = refl

@@ -1,6 +1,6 @@
 -- Steps of private functions: nothing here has to be held against the rules page.
 -- What a request comes to, said without the record: how the card's functions hand it on until the record is made.
-use Rattle.std.specs.Prelude.{Bool, false, cond, not, ◌&&◌, List, ℕ, ◌+◌, ltb, eqb, length, get_or}
+use Rattle.std.specs.Prelude.{Bool, false, cond, not, ◌&&◌, List, ℕ, ◌+◌, ltb, eqb, length}
 use Rattle.frames.specs.declared.Flags.{Flags}
 use Rattle.frames.specs.Flags.{sets_reserved, selects, addresses}
 use Rattle.frames.specs.Field.{field_at}

@@ -8,6 +8,12 @@ use Rattle.commands.proofs.request.body_asked.Goals as goal
 pub overflow_add-result : goal.overflow_add-result
 overflow_add-result c = omega (arith, c.width-w.ensures, width_most c.args.command)
 
+pub overflow_add-result-in-35 : goal.overflow_add-result-in-35
+overflow_add-result-in-35 c = omega (arith, c.width-w.ensures, width_most c.args.command)
+
+pub overflow_add-result-in-44 : goal.overflow_add-result-in-44
+overflow_add-result-in-44 c = omega (arith, c.width-w.ensures, width_most c.args.command)
+
 pub returns-in-32 : goal.returns-in-32
 unfolding body_asked
 returns-in-32 c = rw (← c.width-w.ensures, c.in-32.is)

@@ -7,6 +7,9 @@ use Rattle.commands.specs.Verdict.{on_blocks}
 use Rattle.commands.proofs.Blocks.{width_most, any_locked_one}
 use Rattle.commands.proofs.request.serve_blocks.Goals as goal
 
+pub overflow_add-at : goal.overflow_add-at
+overflow_add-at c = omega (arith, c.width-w.ensures, width_most c.args.command)
+
 pub overflow_add-place : goal.overflow_add-place
 overflow_add-place c = omega (arith, c.width-w.ensures, width_most c.args.command)
 

@@ -8,4 +8,4 @@ unfolding kept
 returns-in-Error c = rw c.in-Error.is
 
 pub returns-in_default : goal.returns-in_default
-returns-in_default c = kept_success c.args.reply c.in_default.in_default-own.keys2
+returns-in_default c = kept_success c.args.reply c.in_default.not-Error
