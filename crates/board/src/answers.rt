@@ -79,15 +79,13 @@ fn back_of(number: u8, reading: Reading) -> i64
     (65536 * kind + value) as i64
 }
 
-#[unsafe(no_mangle)]
-pub extern "C" fn ek_make(request: Request, written: &[u8], frame: &mut [u8]) -> i64
+pub fn ek_make(request: Request, written: &[u8], frame: &mut [u8]) -> i64
     ensures { Makes request written.now frame.old result frame.new }
 {
     request.make(written, frame)
 }
 
-#[unsafe(no_mangle)]
-pub extern "C" fn ek_read(
+pub fn ek_read(
     request: Request,
     answer: &[u8],
     blocks: &mut [u8],

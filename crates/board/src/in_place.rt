@@ -84,15 +84,13 @@ fn ask(walk: Walk, room: &mut [u8]) -> i64
     length_of(send) as i64
 }
 
-#[unsafe(no_mangle)]
-pub extern "C" fn ek_walk_start(walk: &mut Walk, family: u16)
+pub fn ek_walk_start(walk: &mut Walk, family: u16)
     ensures { walk.new ≡ started family }
 {
     *walk = fresh(family);
 }
 
-#[unsafe(no_mangle)]
-pub extern "C" fn ek_walk_hear_silence(walk: &mut Walk, list: &mut [u64]) -> i64
+pub fn ek_walk_hear_silence(walk: &mut Walk, list: &mut [u64]) -> i64
     ensures { HearsInPlace (hearing walk.old Silence [] list.old) result walk.new list.new }
 {
     let told = hear_silence(*walk, list);
@@ -100,8 +98,7 @@ pub extern "C" fn ek_walk_hear_silence(walk: &mut Walk, list: &mut [u64]) -> i64
     told.answer
 }
 
-#[unsafe(no_mangle)]
-pub extern "C" fn ek_walk_hear_clash(walk: &mut Walk, list: &mut [u64]) -> i64
+pub fn ek_walk_hear_clash(walk: &mut Walk, list: &mut [u64]) -> i64
     ensures { HearsInPlace (hearing walk.old Clash [] list.old) result walk.new list.new }
 {
     let told = hear_clash(*walk, list);
@@ -109,8 +106,7 @@ pub extern "C" fn ek_walk_hear_clash(walk: &mut Walk, list: &mut [u64]) -> i64
     told.answer
 }
 
-#[unsafe(no_mangle)]
-pub extern "C" fn ek_walk_hear_bytes(walk: &mut Walk, bytes: &[u8], list: &mut [u64]) -> i64
+pub fn ek_walk_hear_bytes(walk: &mut Walk, bytes: &[u8], list: &mut [u64]) -> i64
     ensures { HearsInPlace (hearing walk.old Bytes bytes.now list.old) result walk.new list.new }
 {
     let told = hear_bytes(*walk, bytes, list);
@@ -118,8 +114,7 @@ pub extern "C" fn ek_walk_hear_bytes(walk: &mut Walk, bytes: &[u8], list: &mut [
     told.answer
 }
 
-#[unsafe(no_mangle)]
-pub extern "C" fn ek_walk_ask(walk: &Walk, room: &mut [u8]) -> i64
+pub fn ek_walk_ask(walk: &Walk, room: &mut [u8]) -> i64
     ensures { AsksInPlace (asking walk.now room.old) result room.new }
 {
     ask(*walk, room)

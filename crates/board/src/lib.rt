@@ -28,57 +28,49 @@ const MINOR: u32 = 0;
 
 const PATCH: u32 = 0;
 
-#[unsafe(no_mangle)]
-pub extern "C" fn ek_version() -> u32
+pub fn ek_version() -> u32
     ensures { result ≡ version }
 {
     65536 * MAJOR + 256 * MINOR + PATCH
 }
 
-#[unsafe(no_mangle)]
-pub extern "C" fn ek_check(bytes: &[u8]) -> u16
+pub fn ek_check(bytes: &[u8]) -> u16
     ensures { result ≡ check_of bytes.now }
 {
     crc::check(bytes)
 }
 
-#[unsafe(no_mangle)]
-pub extern "C" fn ek_is_sound(frame: &[u8]) -> bool
+pub fn ek_is_sound(frame: &[u8]) -> bool
     ensures { result ≡ is_sound frame.now }
 {
     frames::is_sound(frame)
 }
 
-#[unsafe(no_mangle)]
-pub extern "C" fn ek_seal(buffer: &mut [u8], length: usize) -> i64
+pub fn ek_seal(buffer: &mut [u8], length: usize) -> i64
     ensures { Seals buffer.old length result buffer.new }
 {
     frames::seal(buffer, length)
 }
 
-#[unsafe(no_mangle)]
-pub extern "C" fn ek_code(frame: &[u8], coding: u32, track: &mut [u8]) -> i64
+pub fn ek_code(frame: &[u8], coding: u32, track: &mut [u8]) -> i64
     ensures { Codes frame.now coding track.old result track.new }
 {
     tracks::coder::code(frame, coding, track)
 }
 
-#[unsafe(no_mangle)]
-pub extern "C" fn ek_decode(track: &[u8], frame: &mut [u8]) -> i64
+pub fn ek_decode(track: &[u8], frame: &mut [u8]) -> i64
     ensures { Decodes track.now frame.old result frame.new }
 {
     tracks::decoder::decode(track, frame)
 }
 
-#[unsafe(no_mangle)]
-pub extern "C" fn ek_coil_code(answer: &[u8], track: &mut [u8]) -> i64
+pub fn ek_coil_code(answer: &[u8], track: &mut [u8]) -> i64
     ensures { CodesAnswer answer.now track.old result track.new }
 {
     coil::coder::code(answer, track)
 }
 
-#[unsafe(no_mangle)]
-pub extern "C" fn ek_coil_decode(track: &[u8], answer: &mut [u8]) -> i64
+pub fn ek_coil_decode(track: &[u8], answer: &mut [u8]) -> i64
     ensures { DecodesAnswer track.now answer.old result answer.new }
 {
     coil::decoder::decode(track, answer)
@@ -98,8 +90,7 @@ fn settle(served: Served, bytes: &mut [u8]) -> i64
     served.length as i64
 }
 
-#[unsafe(no_mangle)]
-pub extern "C" fn ek_card_frame(
+pub fn ek_card_frame(
     bytes: &mut [u8],
     frame: &[u8],
     memory: &mut [u8],
@@ -113,8 +104,7 @@ pub extern "C" fn ek_card_frame(
     settle(served, bytes)
 }
 
-#[unsafe(no_mangle)]
-pub extern "C" fn ek_card_mark(
+pub fn ek_card_mark(
     bytes: &mut [u8],
     memory: &[u8],
     locks: &[u8],
@@ -127,8 +117,7 @@ pub extern "C" fn ek_card_mark(
     settle(served, bytes)
 }
 
-#[unsafe(no_mangle)]
-pub extern "C" fn ek_card_power_off(
+pub fn ek_card_power_off(
     bytes: &mut [u8],
     memory: &[u8],
     locks: &[u8],

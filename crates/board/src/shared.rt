@@ -41,8 +41,7 @@ fn hear_shared_bytes(
     tell(walk.hear_shared(rack, Kind::Bytes, bytes, rows, owners))
 }
 
-#[unsafe(no_mangle)]
-pub extern "C" fn ek_shared_start(walk: &mut Walk, rack: u32, family: u16, owners: &mut [u8]) -> i64
+pub fn ek_shared_start(walk: &mut Walk, rack: u32, family: u16, owners: &mut [u8]) -> i64
     ensures { StartsInPlace (starting walk.old rack family owners.old) result walk.new owners.new }
 {
     let told = start_shared(*walk, rack, family, owners);
@@ -50,8 +49,7 @@ pub extern "C" fn ek_shared_start(walk: &mut Walk, rack: u32, family: u16, owner
     told.answer
 }
 
-#[unsafe(no_mangle)]
-pub extern "C" fn ek_shared_hear_silence(
+pub fn ek_shared_hear_silence(
     walk: &mut Walk,
     rack: u32,
     rows: &mut [u64],
@@ -64,8 +62,7 @@ pub extern "C" fn ek_shared_hear_silence(
     told.answer
 }
 
-#[unsafe(no_mangle)]
-pub extern "C" fn ek_shared_hear_clash(
+pub fn ek_shared_hear_clash(
     walk: &mut Walk,
     rack: u32,
     rows: &mut [u64],
@@ -78,8 +75,7 @@ pub extern "C" fn ek_shared_hear_clash(
     told.answer
 }
 
-#[unsafe(no_mangle)]
-pub extern "C" fn ek_shared_hear_bytes(
+pub fn ek_shared_hear_bytes(
     walk: &mut Walk,
     rack: u32,
     bytes: &[u8],
