@@ -28,35 +28,35 @@ use Rattle.frames.proofs.Unique.{put_field_unique, seal_unique}
 use Rattle.digits.proofs.Unique.{read_row_unique, put_text_unique}
 use Rattle.tracks.proofs.Unique.{code_unique, decode_unique}
 use Rattle.coil.proofs.Unique.{coil_code_unique, coil_decode_unique}
-use Rattle.crc.specs.contracts.check as crc-check
-use Rattle.crc.specs.contracts.is_sealed as crc-is-sealed
-use Rattle.frames.specs.contracts.Flags.of as frames-flags-of
-use Rattle.frames.specs.contracts.byte_at as frames-byte-at
-use Rattle.frames.specs.contracts.join as frames-join
-use Rattle.frames.specs.contracts.field as frames-field
-use Rattle.frames.specs.contracts.put_field as frames-put-field
-use Rattle.frames.specs.contracts.seal as frames-seal
-use Rattle.frames.specs.contracts.is_sound as frames-is-sound
-use Rattle.digits.specs.contracts.digit_of as hex-digit-of
-use Rattle.digits.specs.contracts.digit as hex-digit
-use Rattle.digits.specs.contracts.has_form as hex-has-form
-use Rattle.digits.specs.contracts.number as hex-number
-use Rattle.digits.specs.contracts.is_row as hex-is-row
-use Rattle.digits.specs.contracts.read_row as hex-read-row
-use Rattle.digits.specs.contracts.put_row as hex-put-row
-use Rattle.digits.specs.contracts.put_bytes as hex-put-bytes
-use Rattle.digits.specs.contracts.put_digits as hex-put-digits
-use Rattle.digits.specs.contracts.put_decimal as hex-put-decimal
-use Rattle.slots.specs.contracts.low_bits as slots-low-bits
-use Rattle.slots.specs.contracts.high_bits as slots-high-bits
-use Rattle.slots.specs.contracts.is_below as slots-is-below
-use Rattle.slots.specs.contracts.mask_bytes as slots-mask-bytes
-use Rattle.slots.specs.contracts.fits_mask as slots-fits-mask
-use Rattle.slots.specs.contracts.fits_slot as slots-fits-slot
-use Rattle.tracks.specs.contracts.coder.code as tracks-code
-use Rattle.tracks.specs.contracts.decoder.decode as tracks-decode
-use Rattle.coil.specs.contracts.coder.code as coil-code
-use Rattle.coil.specs.contracts.decoder.decode as coil-decode
+use Rattle.crc.specs.contracts.check as crc_check
+use Rattle.crc.specs.contracts.is_sealed as crc_is_sealed
+use Rattle.frames.specs.contracts.Flags.of as frames_flags_of
+use Rattle.frames.specs.contracts.byte_at as frames_byte_at
+use Rattle.frames.specs.contracts.join as frames_join
+use Rattle.frames.specs.contracts.field as frames_field
+use Rattle.frames.specs.contracts.put_field as frames_put_field
+use Rattle.frames.specs.contracts.seal as frames_seal
+use Rattle.frames.specs.contracts.is_sound as frames_is_sound
+use Rattle.digits.specs.contracts.digit_of as digits_digit_of
+use Rattle.digits.specs.contracts.digit as digits_digit
+use Rattle.digits.specs.contracts.has_form as digits_has_form
+use Rattle.digits.specs.contracts.number as digits_number
+use Rattle.digits.specs.contracts.is_row as digits_is_row
+use Rattle.digits.specs.contracts.read_row as digits_read_row
+use Rattle.digits.specs.contracts.put_row as digits_put_row
+use Rattle.digits.specs.contracts.put_bytes as digits_put_bytes
+use Rattle.digits.specs.contracts.put_digits as digits_put_digits
+use Rattle.digits.specs.contracts.put_decimal as digits_put_decimal
+use Rattle.slots.specs.contracts.low_bits as slots_low_bits
+use Rattle.slots.specs.contracts.high_bits as slots_high_bits
+use Rattle.slots.specs.contracts.is_below as slots_is_below
+use Rattle.slots.specs.contracts.mask_bytes as slots_mask_bytes
+use Rattle.slots.specs.contracts.fits_mask as slots_fits_mask
+use Rattle.slots.specs.contracts.fits_slot as slots_fits_slot
+use Rattle.tracks.specs.contracts.coder.code as tracks_code
+use Rattle.tracks.specs.contracts.decoder.decode as tracks_decode
+use Rattle.coil.specs.contracts.coder.code as coil_code
+use Rattle.coil.specs.contracts.decoder.decode as coil_decode
 use Rattle.theorems.specs.Contract.{Contract}
 use Rattle.theorems.proofs.Kept.{kept}
 
@@ -64,150 +64,150 @@ use Rattle.theorems.proofs.Kept.{kept}
 module _ {M : Type 1} {𝓤 : Ura M} (𝓛 : Logic 𝓤) (mem : Memory → SProp 𝓤) (run : Routine → Fun 𝓤) where
   -- ---- crc
 
-  crc-check-contract : Contract 𝓛 crc-check.ended (crc-check.spec 𝓛 mem run) (crc-check.clauses 𝓛 mem run)
+  crc_check_contract : Contract 𝓛 crc_check.ended (crc_check.spec 𝓛 mem run) (crc_check.clauses 𝓛 mem run)
       (λ κs a r e. r ≡ check_of a.0.now)
-  crc-check-contract = kept 𝓛 crc-check.ended _ _ _ refl (λ κs a. (tt, id⊢ 𝓤 _)) (λ κs a g r e. id⊢ 𝓤 _) (λ κs a r s x y p q. (p ∙ sym q, refl))
+  crc_check_contract = kept 𝓛 crc_check.ended _ _ _ refl (λ κs a. (tt, id⊢ 𝓤 _)) (λ κs a g r e. id⊢ 𝓤 _) (λ κs a r s x y p q. (p ∙ sym q, refl))
 
-  crc-is-sealed-contract : Contract 𝓛 crc-is-sealed.ended (crc-is-sealed.spec 𝓛 mem run) (crc-is-sealed.clauses 𝓛 mem run)
+  crc_is_sealed_contract : Contract 𝓛 crc_is_sealed.ended (crc_is_sealed.spec 𝓛 mem run) (crc_is_sealed.clauses 𝓛 mem run)
       (λ κs a r e. r ≡ is_sealed a.0.now)
-  crc-is-sealed-contract = kept 𝓛 crc-is-sealed.ended _ _ _ refl (λ κs a. (tt, id⊢ 𝓤 _)) (λ κs a g r e. id⊢ 𝓤 _) (λ κs a r s x y p q. (p ∙ sym q, refl))
+  crc_is_sealed_contract = kept 𝓛 crc_is_sealed.ended _ _ _ refl (λ κs a. (tt, id⊢ 𝓤 _)) (λ κs a g r e. id⊢ 𝓤 _) (λ κs a r s x y p q. (p ∙ sym q, refl))
 
   -- ---- frames
 
-  frames-flags-of-contract : Contract 𝓛 frames-flags-of.ended (frames-flags-of.spec 𝓛 mem run) (frames-flags-of.clauses 𝓛 mem run)
+  frames_flags_of_contract : Contract 𝓛 frames_flags_of.ended (frames_flags_of.spec 𝓛 mem run) (frames_flags_of.clauses 𝓛 mem run)
       (λ κs a r e. r ≡ flags_of a.0)
-  frames-flags-of-contract = kept 𝓛 frames-flags-of.ended _ _ _ refl (λ κs a. (tt, id⊢ 𝓤 _)) (λ κs a g r e. id⊢ 𝓤 _) (λ κs a r s x y p q. (p ∙ sym q, refl))
+  frames_flags_of_contract = kept 𝓛 frames_flags_of.ended _ _ _ refl (λ κs a. (tt, id⊢ 𝓤 _)) (λ κs a g r e. id⊢ 𝓤 _) (λ κs a r s x y p q. (p ∙ sym q, refl))
 
-  frames-byte-at-contract : Contract 𝓛 frames-byte-at.ended (frames-byte-at.spec 𝓛 mem run) (frames-byte-at.clauses 𝓛 mem run)
+  frames_byte_at_contract : Contract 𝓛 frames_byte_at.ended (frames_byte_at.spec 𝓛 mem run) (frames_byte_at.clauses 𝓛 mem run)
       (λ κs a r e. r ≡ get_or a.0.now a.1.0 0)
-  frames-byte-at-contract = kept 𝓛 frames-byte-at.ended _ _ _ refl (λ κs a. (tt, id⊢ 𝓤 _)) (λ κs a g r e. id⊢ 𝓤 _) (λ κs a r s x y p q. (p ∙ sym q, refl))
+  frames_byte_at_contract = kept 𝓛 frames_byte_at.ended _ _ _ refl (λ κs a. (tt, id⊢ 𝓤 _)) (λ κs a g r e. id⊢ 𝓤 _) (λ κs a r s x y p q. (p ∙ sym q, refl))
 
-  frames-join-contract : Contract 𝓛 frames-join.ended (frames-join.spec 𝓛 mem run) (frames-join.clauses 𝓛 mem run)
+  frames_join_contract : Contract 𝓛 frames_join.ended (frames_join.spec 𝓛 mem run) (frames_join.clauses 𝓛 mem run)
       (λ κs a r e. r ≡ field_of (a.0 ∷ a.1.0 ∷ a.1.1.0 ∷ a.1.1.1.0 ∷ []))
-  frames-join-contract = kept 𝓛 frames-join.ended _ _ _ refl (λ κs a. (tt, id⊢ 𝓤 _)) (λ κs a g r e. id⊢ 𝓤 _) (λ κs a r s x y p q. (p ∙ sym q, refl))
+  frames_join_contract = kept 𝓛 frames_join.ended _ _ _ refl (λ κs a. (tt, id⊢ 𝓤 _)) (λ κs a g r e. id⊢ 𝓤 _) (λ κs a r s x y p q. (p ∙ sym q, refl))
 
-  frames-field-contract : Contract 𝓛 frames-field.ended (frames-field.spec 𝓛 mem run) (frames-field.clauses 𝓛 mem run)
+  frames_field_contract : Contract 𝓛 frames_field.ended (frames_field.spec 𝓛 mem run) (frames_field.clauses 𝓛 mem run)
       (λ κs a r e. r ≡ field_at a.0.now a.1.0 a.1.1.0)
-  frames-field-contract = kept 𝓛 frames-field.ended _ _ _ refl (λ κs a. (tt, id⊢ 𝓤 _)) (λ κs a g r e. id⊢ 𝓤 _) (λ κs a r s x y p q. (p ∙ sym q, refl))
+  frames_field_contract = kept 𝓛 frames_field.ended _ _ _ refl (λ κs a. (tt, id⊢ 𝓤 _)) (λ κs a g r e. id⊢ 𝓤 _) (λ κs a r s x y p q. (p ∙ sym q, refl))
 
-  frames-put-field-contract : Contract 𝓛 frames-put-field.ended (frames-put-field.spec 𝓛 mem run) (frames-put-field.clauses 𝓛 mem run)
+  frames_put_field_contract : Contract 𝓛 frames_put_field.ended (frames_put_field.spec 𝓛 mem run) (frames_put_field.clauses 𝓛 mem run)
       (λ κs a r e. PutsField a.0.now a.1.0 a.1.1.0 a.1.1.1.0 r e.0.now)
-  frames-put-field-contract =
-      kept 𝓛 frames-put-field.ended _ _ _ refl (λ κs a. (tt, id⊢ 𝓤 _)) (λ κs a g r e. id⊢ 𝓤 _)
+  frames_put_field_contract =
+      kept 𝓛 frames_put_field.ended _ _ _ refl (λ κs a. (tt, id⊢ 𝓤 _)) (λ κs a g r e. id⊢ 𝓤 _)
       (λ κs a r s x y p q. let u : _ = put_field_unique p q in (u.0, λ i. (u.1 i, (tt, (tt, (tt, tt))))))
 
-  frames-seal-contract : Contract 𝓛 frames-seal.ended (frames-seal.spec 𝓛 mem run) (frames-seal.clauses 𝓛 mem run)
+  frames_seal_contract : Contract 𝓛 frames_seal.ended (frames_seal.spec 𝓛 mem run) (frames_seal.clauses 𝓛 mem run)
       (λ κs a r e. Seals a.0.now a.1.0 r e.0.now)
-  frames-seal-contract =
-      kept 𝓛 frames-seal.ended _ _ _ refl (λ κs a. (tt, id⊢ 𝓤 _)) (λ κs a g r e. id⊢ 𝓤 _)
+  frames_seal_contract =
+      kept 𝓛 frames_seal.ended _ _ _ refl (λ κs a. (tt, id⊢ 𝓤 _)) (λ κs a g r e. id⊢ 𝓤 _)
       (λ κs a r s x y p q. let u : _ = seal_unique p q in (u.0, λ i. (u.1 i, (tt, tt))))
 
-  frames-is-sound-contract : Contract 𝓛 frames-is-sound.ended (frames-is-sound.spec 𝓛 mem run) (frames-is-sound.clauses 𝓛 mem run)
+  frames_is_sound_contract : Contract 𝓛 frames_is_sound.ended (frames_is_sound.spec 𝓛 mem run) (frames_is_sound.clauses 𝓛 mem run)
       (λ κs a r e. r ≡ is_sound a.0.now)
-  frames-is-sound-contract = kept 𝓛 frames-is-sound.ended _ _ _ refl (λ κs a. (tt, id⊢ 𝓤 _)) (λ κs a g r e. id⊢ 𝓤 _) (λ κs a r s x y p q. (p ∙ sym q, refl))
+  frames_is_sound_contract = kept 𝓛 frames_is_sound.ended _ _ _ refl (λ κs a. (tt, id⊢ 𝓤 _)) (λ κs a g r e. id⊢ 𝓤 _) (λ κs a r s x y p q. (p ∙ sym q, refl))
 
   -- ---- hex
 
-  hex-digit-of-contract : Contract 𝓛 hex-digit-of.ended (hex-digit-of.spec 𝓛 mem run) (hex-digit-of.clauses 𝓛 mem run)
+  digits_digit_of_contract : Contract 𝓛 digits_digit_of.ended (digits_digit_of.spec 𝓛 mem run) (digits_digit_of.clauses 𝓛 mem run)
       (λ κs a r e. r ≡ digit_of a.0)
-  hex-digit-of-contract = kept 𝓛 hex-digit-of.ended _ _ _ refl (λ κs a. (tt, id⊢ 𝓤 _)) (λ κs a g r e. id⊢ 𝓤 _) (λ κs a r s x y p q. (p ∙ sym q, refl))
+  digits_digit_of_contract = kept 𝓛 digits_digit_of.ended _ _ _ refl (λ κs a. (tt, id⊢ 𝓤 _)) (λ κs a g r e. id⊢ 𝓤 _) (λ κs a r s x y p q. (p ∙ sym q, refl))
 
-  hex-digit-contract : Contract 𝓛 hex-digit.ended (hex-digit.spec 𝓛 mem run) (hex-digit.clauses 𝓛 mem run)
+  digits_digit_contract : Contract 𝓛 digits_digit.ended (digits_digit.spec 𝓛 mem run) (digits_digit.clauses 𝓛 mem run)
       (λ κs a r e. r ≡ digit a.0)
-  hex-digit-contract = kept 𝓛 hex-digit.ended _ _ _ refl (λ κs a. (tt, id⊢ 𝓤 _)) (λ κs a g r e. id⊢ 𝓤 _) (λ κs a r s x y p q. (p ∙ sym q, refl))
+  digits_digit_contract = kept 𝓛 digits_digit.ended _ _ _ refl (λ κs a. (tt, id⊢ 𝓤 _)) (λ κs a g r e. id⊢ 𝓤 _) (λ κs a r s x y p q. (p ∙ sym q, refl))
 
-  hex-has-form-contract : Contract 𝓛 hex-has-form.ended (hex-has-form.spec 𝓛 mem run) (hex-has-form.clauses 𝓛 mem run)
+  digits_has_form_contract : Contract 𝓛 digits_has_form.ended (digits_has_form.spec 𝓛 mem run) (digits_has_form.clauses 𝓛 mem run)
       (λ κs a r e. r ≡ has_form a.0.now a.1.0.now)
-  hex-has-form-contract = kept 𝓛 hex-has-form.ended _ _ _ refl (λ κs a. (tt, id⊢ 𝓤 _)) (λ κs a g r e. id⊢ 𝓤 _) (λ κs a r s x y p q. (p ∙ sym q, refl))
+  digits_has_form_contract = kept 𝓛 digits_has_form.ended _ _ _ refl (λ κs a. (tt, id⊢ 𝓤 _)) (λ κs a g r e. id⊢ 𝓤 _) (λ κs a r s x y p q. (p ∙ sym q, refl))
 
-  hex-number-contract : Contract 𝓛 hex-number.ended (hex-number.spec 𝓛 mem run) (hex-number.clauses 𝓛 mem run)
+  digits_number_contract : Contract 𝓛 digits_number.ended (digits_number.spec 𝓛 mem run) (digits_number.clauses 𝓛 mem run)
       (λ κs a r e. r ≡ number_at a.0.now a.1.0 a.1.1.0)
-  hex-number-contract = kept 𝓛 hex-number.ended _ _ _ refl (λ κs a. (tt, id⊢ 𝓤 _)) (λ κs a g r e. id⊢ 𝓤 _) (λ κs a r s x y p q. (p ∙ sym q, refl))
+  digits_number_contract = kept 𝓛 digits_number.ended _ _ _ refl (λ κs a. (tt, id⊢ 𝓤 _)) (λ κs a g r e. id⊢ 𝓤 _) (λ κs a r s x y p q. (p ∙ sym q, refl))
 
-  hex-is-row-contract : Contract 𝓛 hex-is-row.ended (hex-is-row.spec 𝓛 mem run) (hex-is-row.clauses 𝓛 mem run)
+  digits_is_row_contract : Contract 𝓛 digits_is_row.ended (digits_is_row.spec 𝓛 mem run) (digits_is_row.clauses 𝓛 mem run)
       (λ κs a r e. r ≡ is_row a.0.now)
-  hex-is-row-contract = kept 𝓛 hex-is-row.ended _ _ _ refl (λ κs a. (tt, id⊢ 𝓤 _)) (λ κs a g r e. id⊢ 𝓤 _) (λ κs a r s x y p q. (p ∙ sym q, refl))
+  digits_is_row_contract = kept 𝓛 digits_is_row.ended _ _ _ refl (λ κs a. (tt, id⊢ 𝓤 _)) (λ κs a g r e. id⊢ 𝓤 _) (λ κs a r s x y p q. (p ∙ sym q, refl))
 
-  hex-read-row-contract : Contract 𝓛 hex-read-row.ended (hex-read-row.spec 𝓛 mem run) (hex-read-row.clauses 𝓛 mem run)
+  digits_read_row_contract : Contract 𝓛 digits_read_row.ended (digits_read_row.spec 𝓛 mem run) (digits_read_row.clauses 𝓛 mem run)
       (λ κs a r e. ReadsRow a.0.now a.1.0.now r e.1.0.now)
-  hex-read-row-contract =
-      kept 𝓛 hex-read-row.ended _ _ _ refl (λ κs a. (tt, id⊢ 𝓤 _)) (λ κs a g r e. id⊢ 𝓤 _)
+  digits_read_row_contract =
+      kept 𝓛 digits_read_row.ended _ _ _ refl (λ κs a. (tt, id⊢ 𝓤 _)) (λ κs a g r e. id⊢ 𝓤 _)
       (λ κs a r s x y p q. let u : _ = read_row_unique p q in (u.0, λ i. (tt, (u.1 i, tt))))
 
-  hex-put-row-contract : Contract 𝓛 hex-put-row.ended (hex-put-row.spec 𝓛 mem run) (hex-put-row.clauses 𝓛 mem run)
+  digits_put_row_contract : Contract 𝓛 digits_put_row.ended (digits_put_row.spec 𝓛 mem run) (digits_put_row.clauses 𝓛 mem run)
       (λ κs a r e. PutsText (row_text a.0.now) a.1.0.now a.1.1.0 r e.1.0.now)
-  hex-put-row-contract =
-      kept 𝓛 hex-put-row.ended _ _ _ refl (λ κs a. (tt, id⊢ 𝓤 _)) (λ κs a g r e. id⊢ 𝓤 _)
+  digits_put_row_contract =
+      kept 𝓛 digits_put_row.ended _ _ _ refl (λ κs a. (tt, id⊢ 𝓤 _)) (λ κs a g r e. id⊢ 𝓤 _)
       (λ κs a r s x y p q. let u : _ = put_text_unique p q in (u.0, λ i. (tt, (u.1 i, (tt, tt)))))
 
-  hex-put-bytes-contract : Contract 𝓛 hex-put-bytes.ended (hex-put-bytes.spec 𝓛 mem run) (hex-put-bytes.clauses 𝓛 mem run)
+  digits_put_bytes_contract : Contract 𝓛 digits_put_bytes.ended (digits_put_bytes.spec 𝓛 mem run) (digits_put_bytes.clauses 𝓛 mem run)
       (λ κs a r e. PutsText a.0.now a.1.0.now a.1.1.0 r e.1.0.now)
-  hex-put-bytes-contract =
-      kept 𝓛 hex-put-bytes.ended _ _ _ refl (λ κs a. (tt, id⊢ 𝓤 _)) (λ κs a g r e. id⊢ 𝓤 _)
+  digits_put_bytes_contract =
+      kept 𝓛 digits_put_bytes.ended _ _ _ refl (λ κs a. (tt, id⊢ 𝓤 _)) (λ κs a g r e. id⊢ 𝓤 _)
       (λ κs a r s x y p q. let u : _ = put_text_unique p q in (u.0, λ i. (tt, (u.1 i, (tt, tt)))))
 
-  hex-put-digits-contract : Contract 𝓛 hex-put-digits.ended (hex-put-digits.spec 𝓛 mem run) (hex-put-digits.clauses 𝓛 mem run)
+  digits_put_digits_contract : Contract 𝓛 digits_put_digits.ended (digits_put_digits.spec 𝓛 mem run) (digits_put_digits.clauses 𝓛 mem run)
       (λ κs a r e. PutsText (hex_digits a.1.0 a.0) a.1.1.0.now a.1.1.1.0 r e.1.1.0.now)
-  hex-put-digits-contract =
-      kept 𝓛 hex-put-digits.ended _ _ _ refl (λ κs a. (tt, id⊢ 𝓤 _)) (λ κs a g r e. id⊢ 𝓤 _)
+  digits_put_digits_contract =
+      kept 𝓛 digits_put_digits.ended _ _ _ refl (λ κs a. (tt, id⊢ 𝓤 _)) (λ κs a g r e. id⊢ 𝓤 _)
       (λ κs a r s x y p q. let u : _ = put_text_unique p q in (u.0, λ i. (tt, (tt, (u.1 i, (tt, tt))))))
 
-  hex-put-decimal-contract : Contract 𝓛 hex-put-decimal.ended (hex-put-decimal.spec 𝓛 mem run) (hex-put-decimal.clauses 𝓛 mem run)
+  digits_put_decimal_contract : Contract 𝓛 digits_put_decimal.ended (digits_put_decimal.spec 𝓛 mem run) (digits_put_decimal.clauses 𝓛 mem run)
       (λ κs a r e. PutsText (decimal a.0) a.1.0.now a.1.1.0 r e.1.0.now)
-  hex-put-decimal-contract =
-      kept 𝓛 hex-put-decimal.ended _ _ _ refl (λ κs a. (tt, id⊢ 𝓤 _)) (λ κs a g r e. id⊢ 𝓤 _)
+  digits_put_decimal_contract =
+      kept 𝓛 digits_put_decimal.ended _ _ _ refl (λ κs a. (tt, id⊢ 𝓤 _)) (λ κs a g r e. id⊢ 𝓤 _)
       (λ κs a r s x y p q. let u : _ = put_text_unique p q in (u.0, λ i. (tt, (u.1 i, (tt, tt)))))
 
   -- ---- slots
 
-  slots-low-bits-contract : Contract 𝓛 slots-low-bits.ended (slots-low-bits.spec 𝓛 mem run) (slots-low-bits.clauses 𝓛 mem run)
+  slots_low_bits_contract : Contract 𝓛 slots_low_bits.ended (slots_low_bits.spec 𝓛 mem run) (slots_low_bits.clauses 𝓛 mem run)
       (λ κs a r e. r ≡ a.0 % 2 ^ a.1.0)
-  slots-low-bits-contract = kept 𝓛 slots-low-bits.ended _ _ _ refl (λ κs a. (tt, id⊢ 𝓤 _)) (λ κs a g r e. id⊢ 𝓤 _) (λ κs a r s x y p q. (p ∙ sym q, refl))
+  slots_low_bits_contract = kept 𝓛 slots_low_bits.ended _ _ _ refl (λ κs a. (tt, id⊢ 𝓤 _)) (λ κs a g r e. id⊢ 𝓤 _) (λ κs a r s x y p q. (p ∙ sym q, refl))
 
-  slots-high-bits-contract : Contract 𝓛 slots-high-bits.ended (slots-high-bits.spec 𝓛 mem run) (slots-high-bits.clauses 𝓛 mem run)
+  slots_high_bits_contract : Contract 𝓛 slots_high_bits.ended (slots_high_bits.spec 𝓛 mem run) (slots_high_bits.clauses 𝓛 mem run)
       (λ κs a r e. r ≡ a.0 / 2 ^ a.1.0)
-  slots-high-bits-contract = kept 𝓛 slots-high-bits.ended _ _ _ refl (λ κs a. (tt, id⊢ 𝓤 _)) (λ κs a g r e. id⊢ 𝓤 _) (λ κs a r s x y p q. (p ∙ sym q, refl))
+  slots_high_bits_contract = kept 𝓛 slots_high_bits.ended _ _ _ refl (λ κs a. (tt, id⊢ 𝓤 _)) (λ κs a g r e. id⊢ 𝓤 _) (λ κs a r s x y p q. (p ∙ sym q, refl))
 
-  slots-is-below-contract : Contract 𝓛 slots-is-below.ended (slots-is-below.spec 𝓛 mem run) (slots-is-below.clauses 𝓛 mem run)
+  slots_is_below_contract : Contract 𝓛 slots_is_below.ended (slots_is_below.spec 𝓛 mem run) (slots_is_below.clauses 𝓛 mem run)
       (λ κs a r e. r ≡ ltb a.0 (2 ^ a.1.0))
-  slots-is-below-contract = kept 𝓛 slots-is-below.ended _ _ _ refl (λ κs a. (tt, id⊢ 𝓤 _)) (λ κs a g r e. id⊢ 𝓤 _) (λ κs a r s x y p q. (p ∙ sym q, refl))
+  slots_is_below_contract = kept 𝓛 slots_is_below.ended _ _ _ refl (λ κs a. (tt, id⊢ 𝓤 _)) (λ κs a g r e. id⊢ 𝓤 _) (λ κs a r s x y p q. (p ∙ sym q, refl))
 
-  slots-mask-bytes-contract : Contract 𝓛 slots-mask-bytes.ended (slots-mask-bytes.spec 𝓛 mem run) (slots-mask-bytes.clauses 𝓛 mem run)
+  slots_mask_bytes_contract : Contract 𝓛 slots_mask_bytes.ended (slots_mask_bytes.spec 𝓛 mem run) (slots_mask_bytes.clauses 𝓛 mem run)
       (λ κs a r e. r ≡ mask_bytes a.0)
-  slots-mask-bytes-contract = kept 𝓛 slots-mask-bytes.ended _ _ _ refl (λ κs a. (tt, id⊢ 𝓤 _)) (λ κs a g r e. id⊢ 𝓤 _) (λ κs a r s x y p q. (p ∙ sym q, refl))
+  slots_mask_bytes_contract = kept 𝓛 slots_mask_bytes.ended _ _ _ refl (λ κs a. (tt, id⊢ 𝓤 _)) (λ κs a g r e. id⊢ 𝓤 _) (λ κs a r s x y p q. (p ∙ sym q, refl))
 
-  slots-fits-mask-contract : Contract 𝓛 slots-fits-mask.ended (slots-fits-mask.spec 𝓛 mem run) (slots-fits-mask.clauses 𝓛 mem run)
+  slots_fits_mask_contract : Contract 𝓛 slots_fits_mask.ended (slots_fits_mask.spec 𝓛 mem run) (slots_fits_mask.clauses 𝓛 mem run)
       (λ κs a r e. r ≡ fits_mask a.0 a.1.0 a.1.1.0)
-  slots-fits-mask-contract = kept 𝓛 slots-fits-mask.ended _ _ _ refl (λ κs a. (tt, id⊢ 𝓤 _)) (λ κs a g r e. id⊢ 𝓤 _) (λ κs a r s x y p q. (p ∙ sym q, refl))
+  slots_fits_mask_contract = kept 𝓛 slots_fits_mask.ended _ _ _ refl (λ κs a. (tt, id⊢ 𝓤 _)) (λ κs a g r e. id⊢ 𝓤 _) (λ κs a r s x y p q. (p ∙ sym q, refl))
 
-  slots-fits-slot-contract : Contract 𝓛 slots-fits-slot.ended (slots-fits-slot.spec 𝓛 mem run) (slots-fits-slot.clauses 𝓛 mem run)
+  slots_fits_slot_contract : Contract 𝓛 slots_fits_slot.ended (slots_fits_slot.spec 𝓛 mem run) (slots_fits_slot.clauses 𝓛 mem run)
       (λ κs a r e. r ≡ fits_slot a.0 a.1.0 a.1.1.0 a.1.1.1.0)
-  slots-fits-slot-contract = kept 𝓛 slots-fits-slot.ended _ _ _ refl (λ κs a. (tt, id⊢ 𝓤 _)) (λ κs a g r e. id⊢ 𝓤 _) (λ κs a r s x y p q. (p ∙ sym q, refl))
+  slots_fits_slot_contract = kept 𝓛 slots_fits_slot.ended _ _ _ refl (λ κs a. (tt, id⊢ 𝓤 _)) (λ κs a g r e. id⊢ 𝓤 _) (λ κs a r s x y p q. (p ∙ sym q, refl))
 
   -- ---- tracks
 
-  tracks-code-contract : Contract 𝓛 tracks-code.ended (tracks-code.spec 𝓛 mem run) (tracks-code.clauses 𝓛 mem run)
+  tracks_code_contract : Contract 𝓛 tracks_code.ended (tracks_code.spec 𝓛 mem run) (tracks_code.clauses 𝓛 mem run)
       (λ κs a r e. Codes a.0.now a.1.0 a.1.1.0.now r e.1.1.0.now)
-  tracks-code-contract =
-      kept 𝓛 tracks-code.ended _ _ _ refl (λ κs a. (tt, id⊢ 𝓤 _)) (λ κs a g r e. id⊢ 𝓤 _)
+  tracks_code_contract =
+      kept 𝓛 tracks_code.ended _ _ _ refl (λ κs a. (tt, id⊢ 𝓤 _)) (λ κs a g r e. id⊢ 𝓤 _)
       (λ κs a r s x y p q. let u : _ = code_unique p q in (u.0, λ i. (tt, (tt, (u.1 i, tt)))))
 
-  tracks-decode-contract : Contract 𝓛 tracks-decode.ended (tracks-decode.spec 𝓛 mem run) (tracks-decode.clauses 𝓛 mem run)
+  tracks_decode_contract : Contract 𝓛 tracks_decode.ended (tracks_decode.spec 𝓛 mem run) (tracks_decode.clauses 𝓛 mem run)
       (λ κs a r e. Decodes a.0.now a.1.0.now r e.1.0.now)
-  tracks-decode-contract =
-      kept 𝓛 tracks-decode.ended _ _ _ refl (λ κs a. (tt, id⊢ 𝓤 _)) (λ κs a g r e. id⊢ 𝓤 _)
+  tracks_decode_contract =
+      kept 𝓛 tracks_decode.ended _ _ _ refl (λ κs a. (tt, id⊢ 𝓤 _)) (λ κs a g r e. id⊢ 𝓤 _)
       (λ κs a r s x y p q. let u : _ = decode_unique p q in (u.0, λ i. (tt, (u.1 i, tt))))
 
   -- ---- coil
 
-  coil-code-contract : Contract 𝓛 coil-code.ended (coil-code.spec 𝓛 mem run) (coil-code.clauses 𝓛 mem run)
+  coil_code_contract : Contract 𝓛 coil_code.ended (coil_code.spec 𝓛 mem run) (coil_code.clauses 𝓛 mem run)
       (λ κs a r e. CodesAnswer a.0.now a.1.0.now r e.1.0.now)
-  coil-code-contract =
-      kept 𝓛 coil-code.ended _ _ _ refl (λ κs a. (tt, id⊢ 𝓤 _)) (λ κs a g r e. id⊢ 𝓤 _)
+  coil_code_contract =
+      kept 𝓛 coil_code.ended _ _ _ refl (λ κs a. (tt, id⊢ 𝓤 _)) (λ κs a g r e. id⊢ 𝓤 _)
       (λ κs a r s x y p q. let u : _ = coil_code_unique p q in (u.0, λ i. (tt, (u.1 i, tt))))
 
-  coil-decode-contract : Contract 𝓛 coil-decode.ended (coil-decode.spec 𝓛 mem run) (coil-decode.clauses 𝓛 mem run)
+  coil_decode_contract : Contract 𝓛 coil_decode.ended (coil_decode.spec 𝓛 mem run) (coil_decode.clauses 𝓛 mem run)
       (λ κs a r e. DecodesAnswer a.0.now a.1.0.now r e.1.0.now)
-  coil-decode-contract =
-      kept 𝓛 coil-decode.ended _ _ _ refl (λ κs a. (tt, id⊢ 𝓤 _)) (λ κs a g r e. id⊢ 𝓤 _)
+  coil_decode_contract =
+      kept 𝓛 coil_decode.ended _ _ _ refl (λ κs a. (tt, id⊢ 𝓤 _)) (λ κs a g r e. id⊢ 𝓤 _)
       (λ κs a r s x y p q. let u : _ = coil_decode_unique p q in (u.0, λ i. (tt, (u.1 i, tt))))

@@ -33,28 +33,28 @@ use Rattle.board.proofs.Unique.{gives_unique}
 use Rattle.board.proofs.UniqueWalked.{hear_in_place_unique, ask_in_place_unique, start_shared_in_place_unique, hear_shared_in_place_unique}
 use Rattle.board.proofs.UniqueAnswers.{read_by_value_unique}
 use Rattle.reader.proofs.Unique.{make_unique}
-use Rattle.board.specs.contracts.ek_version as ek-version
-use Rattle.board.specs.contracts.ek_check as ek-check
-use Rattle.board.specs.contracts.ek_is_sound as ek-is-sound
-use Rattle.board.specs.contracts.ek_seal as ek-seal
-use Rattle.board.specs.contracts.ek_code as ek-code
-use Rattle.board.specs.contracts.ek_decode as ek-decode
-use Rattle.board.specs.contracts.ek_coil_code as ek-coil-code
-use Rattle.board.specs.contracts.ek_coil_decode as ek-coil-decode
-use Rattle.board.specs.contracts.ek_card_frame as ek-card-frame
-use Rattle.board.specs.contracts.ek_card_mark as ek-card-mark
-use Rattle.board.specs.contracts.ek_card_power_off as ek-card-power-off
-use Rattle.board.specs.contracts.in_place.ek_walk_start as ek-walk-start
-use Rattle.board.specs.contracts.in_place.ek_walk_hear_silence as ek-walk-hear-silence
-use Rattle.board.specs.contracts.in_place.ek_walk_hear_clash as ek-walk-hear-clash
-use Rattle.board.specs.contracts.in_place.ek_walk_hear_bytes as ek-walk-hear-bytes
-use Rattle.board.specs.contracts.shared.ek_shared_start as ek-shared-start
-use Rattle.board.specs.contracts.shared.ek_shared_hear_silence as ek-shared-hear-silence
-use Rattle.board.specs.contracts.shared.ek_shared_hear_clash as ek-shared-hear-clash
-use Rattle.board.specs.contracts.shared.ek_shared_hear_bytes as ek-shared-hear-bytes
-use Rattle.board.specs.contracts.in_place.ek_walk_ask as ek-walk-ask
-use Rattle.board.specs.contracts.answers.ek_make as ek-make
-use Rattle.board.specs.contracts.answers.ek_read as ek-read
+use Rattle.board.specs.contracts.ek_version as ek_version
+use Rattle.board.specs.contracts.ek_check as ek_check
+use Rattle.board.specs.contracts.ek_is_sound as ek_is_sound
+use Rattle.board.specs.contracts.ek_seal as ek_seal
+use Rattle.board.specs.contracts.ek_code as ek_code
+use Rattle.board.specs.contracts.ek_decode as ek_decode
+use Rattle.board.specs.contracts.ek_coil_code as ek_coil_code
+use Rattle.board.specs.contracts.ek_coil_decode as ek_coil_decode
+use Rattle.board.specs.contracts.ek_card_frame as ek_card_frame
+use Rattle.board.specs.contracts.ek_card_mark as ek_card_mark
+use Rattle.board.specs.contracts.ek_card_power_off as ek_card_power_off
+use Rattle.board.specs.contracts.in_place.ek_walk_start as ek_walk_start
+use Rattle.board.specs.contracts.in_place.ek_walk_hear_silence as ek_walk_hear_silence
+use Rattle.board.specs.contracts.in_place.ek_walk_hear_clash as ek_walk_hear_clash
+use Rattle.board.specs.contracts.in_place.ek_walk_hear_bytes as ek_walk_hear_bytes
+use Rattle.board.specs.contracts.shared.ek_shared_start as ek_shared_start
+use Rattle.board.specs.contracts.shared.ek_shared_hear_silence as ek_shared_hear_silence
+use Rattle.board.specs.contracts.shared.ek_shared_hear_clash as ek_shared_hear_clash
+use Rattle.board.specs.contracts.shared.ek_shared_hear_bytes as ek_shared_hear_bytes
+use Rattle.board.specs.contracts.in_place.ek_walk_ask as ek_walk_ask
+use Rattle.board.specs.contracts.answers.ek_make as ek_make
+use Rattle.board.specs.contracts.answers.ek_read as ek_read
 use Rattle.theorems.specs.Contract.{Contract}
 use Rattle.theorems.proofs.Kept.{kept}
 
@@ -62,141 +62,141 @@ use Rattle.theorems.proofs.Kept.{kept}
 module _ {M : Type 1} {𝓤 : Ura M} (𝓛 : Logic 𝓤) (mem : Memory → SProp 𝓤) (run : Routine → Fun 𝓤) where
   -- ---- board
 
-  ek-version-contract : Contract 𝓛 ek-version.ended (ek-version.spec 𝓛 mem run) (ek-version.clauses 𝓛 mem run)
+  ek_version_contract : Contract 𝓛 ek_version.ended (ek_version.spec 𝓛 mem run) (ek_version.clauses 𝓛 mem run)
       (λ κs a r e. r ≡ version)
-  ek-version-contract = kept 𝓛 ek-version.ended _ _ _ refl (λ κs a. (tt, id⊢ 𝓤 _)) (λ κs a g r e. id⊢ 𝓤 _) (λ κs a r s x y p q. (p ∙ sym q, refl))
+  ek_version_contract = kept 𝓛 ek_version.ended _ _ _ refl (λ κs a. (tt, id⊢ 𝓤 _)) (λ κs a g r e. id⊢ 𝓤 _) (λ κs a r s x y p q. (p ∙ sym q, refl))
 
-  ek-check-contract : Contract 𝓛 ek-check.ended (ek-check.spec 𝓛 mem run) (ek-check.clauses 𝓛 mem run)
+  ek_check_contract : Contract 𝓛 ek_check.ended (ek_check.spec 𝓛 mem run) (ek_check.clauses 𝓛 mem run)
       (λ κs a r e. r ≡ check_of a.0.now)
-  ek-check-contract = kept 𝓛 ek-check.ended _ _ _ refl (λ κs a. (tt, id⊢ 𝓤 _)) (λ κs a g r e. id⊢ 𝓤 _) (λ κs a r s x y p q. (p ∙ sym q, refl))
+  ek_check_contract = kept 𝓛 ek_check.ended _ _ _ refl (λ κs a. (tt, id⊢ 𝓤 _)) (λ κs a g r e. id⊢ 𝓤 _) (λ κs a r s x y p q. (p ∙ sym q, refl))
 
-  ek-is-sound-contract : Contract 𝓛 ek-is-sound.ended (ek-is-sound.spec 𝓛 mem run) (ek-is-sound.clauses 𝓛 mem run)
+  ek_is_sound_contract : Contract 𝓛 ek_is_sound.ended (ek_is_sound.spec 𝓛 mem run) (ek_is_sound.clauses 𝓛 mem run)
       (λ κs a r e. r ≡ is_sound a.0.now)
-  ek-is-sound-contract = kept 𝓛 ek-is-sound.ended _ _ _ refl (λ κs a. (tt, id⊢ 𝓤 _)) (λ κs a g r e. id⊢ 𝓤 _) (λ κs a r s x y p q. (p ∙ sym q, refl))
+  ek_is_sound_contract = kept 𝓛 ek_is_sound.ended _ _ _ refl (λ κs a. (tt, id⊢ 𝓤 _)) (λ κs a g r e. id⊢ 𝓤 _) (λ κs a r s x y p q. (p ∙ sym q, refl))
 
-  ek-seal-contract : Contract 𝓛 ek-seal.ended (ek-seal.spec 𝓛 mem run) (ek-seal.clauses 𝓛 mem run)
+  ek_seal_contract : Contract 𝓛 ek_seal.ended (ek_seal.spec 𝓛 mem run) (ek_seal.clauses 𝓛 mem run)
       (λ κs a r e. Seals a.0.now a.1.0 r e.0.now)
-  ek-seal-contract =
-      kept 𝓛 ek-seal.ended _ _ _ refl (λ κs a. (tt, id⊢ 𝓤 _)) (λ κs a g r e. id⊢ 𝓤 _)
+  ek_seal_contract =
+      kept 𝓛 ek_seal.ended _ _ _ refl (λ κs a. (tt, id⊢ 𝓤 _)) (λ κs a g r e. id⊢ 𝓤 _)
       (λ κs a r s x y p q. let u : _ = seal_unique p q in (u.0, λ i. (u.1 i, (tt, tt))))
 
-  ek-code-contract : Contract 𝓛 ek-code.ended (ek-code.spec 𝓛 mem run) (ek-code.clauses 𝓛 mem run)
+  ek_code_contract : Contract 𝓛 ek_code.ended (ek_code.spec 𝓛 mem run) (ek_code.clauses 𝓛 mem run)
       (λ κs a r e. Codes a.0.now a.1.0 a.1.1.0.now r e.1.1.0.now)
-  ek-code-contract =
-      kept 𝓛 ek-code.ended _ _ _ refl (λ κs a. (tt, id⊢ 𝓤 _)) (λ κs a g r e. id⊢ 𝓤 _)
+  ek_code_contract =
+      kept 𝓛 ek_code.ended _ _ _ refl (λ κs a. (tt, id⊢ 𝓤 _)) (λ κs a g r e. id⊢ 𝓤 _)
       (λ κs a r s x y p q. let u : _ = code_unique p q in (u.0, λ i. (tt, (tt, (u.1 i, tt)))))
 
-  ek-decode-contract : Contract 𝓛 ek-decode.ended (ek-decode.spec 𝓛 mem run) (ek-decode.clauses 𝓛 mem run)
+  ek_decode_contract : Contract 𝓛 ek_decode.ended (ek_decode.spec 𝓛 mem run) (ek_decode.clauses 𝓛 mem run)
       (λ κs a r e. Decodes a.0.now a.1.0.now r e.1.0.now)
-  ek-decode-contract =
-      kept 𝓛 ek-decode.ended _ _ _ refl (λ κs a. (tt, id⊢ 𝓤 _)) (λ κs a g r e. id⊢ 𝓤 _)
+  ek_decode_contract =
+      kept 𝓛 ek_decode.ended _ _ _ refl (λ κs a. (tt, id⊢ 𝓤 _)) (λ κs a g r e. id⊢ 𝓤 _)
       (λ κs a r s x y p q. let u : _ = decode_unique p q in (u.0, λ i. (tt, (u.1 i, tt))))
 
-  ek-coil-code-contract : Contract 𝓛 ek-coil-code.ended (ek-coil-code.spec 𝓛 mem run) (ek-coil-code.clauses 𝓛 mem run)
+  ek_coil_code_contract : Contract 𝓛 ek_coil_code.ended (ek_coil_code.spec 𝓛 mem run) (ek_coil_code.clauses 𝓛 mem run)
       (λ κs a r e. CodesAnswer a.0.now a.1.0.now r e.1.0.now)
-  ek-coil-code-contract =
-      kept 𝓛 ek-coil-code.ended _ _ _ refl (λ κs a. (tt, id⊢ 𝓤 _)) (λ κs a g r e. id⊢ 𝓤 _)
+  ek_coil_code_contract =
+      kept 𝓛 ek_coil_code.ended _ _ _ refl (λ κs a. (tt, id⊢ 𝓤 _)) (λ κs a g r e. id⊢ 𝓤 _)
       (λ κs a r s x y p q. let u : _ = coil_code_unique p q in (u.0, λ i. (tt, (u.1 i, tt))))
 
-  ek-coil-decode-contract : Contract 𝓛 ek-coil-decode.ended (ek-coil-decode.spec 𝓛 mem run) (ek-coil-decode.clauses 𝓛 mem run)
+  ek_coil_decode_contract : Contract 𝓛 ek_coil_decode.ended (ek_coil_decode.spec 𝓛 mem run) (ek_coil_decode.clauses 𝓛 mem run)
       (λ κs a r e. DecodesAnswer a.0.now a.1.0.now r e.1.0.now)
-  ek-coil-decode-contract =
-      kept 𝓛 ek-coil-decode.ended _ _ _ refl (λ κs a. (tt, id⊢ 𝓤 _)) (λ κs a g r e. id⊢ 𝓤 _)
+  ek_coil_decode_contract =
+      kept 𝓛 ek_coil_decode.ended _ _ _ refl (λ κs a. (tt, id⊢ 𝓤 _)) (λ κs a g r e. id⊢ 𝓤 _)
       (λ κs a r s x y p q. let u : _ = coil_decode_unique p q in (u.0, λ i. (tt, (u.1 i, tt))))
 
-  ek-card-frame-contract : Contract 𝓛 ek-card-frame.ended (ek-card-frame.spec 𝓛 mem run) (ek-card-frame.clauses 𝓛 mem run)
+  ek_card_frame_contract : Contract 𝓛 ek_card_frame.ended (ek_card_frame.spec 𝓛 mem run) (ek_card_frame.clauses 𝓛 mem run)
       (λ κs a r e.
       Gives (frame_call a.0.now a.1.0.now a.1.1.0.now a.1.1.1.0.now a.1.1.1.1.0.now)
       r e.0.now e.1.1.0.now e.1.1.1.0.now e.1.1.1.1.0.now)
-  ek-card-frame-contract =
-      kept 𝓛 ek-card-frame.ended _ _ _ refl (λ κs a. (tt, id⊢ 𝓤 _)) (λ κs a g r e. id⊢ 𝓤 _)
+  ek_card_frame_contract =
+      kept 𝓛 ek_card_frame.ended _ _ _ refl (λ κs a. (tt, id⊢ 𝓤 _)) (λ κs a g r e. id⊢ 𝓤 _)
       (λ κs a r s x y p q. let u : _ = gives_unique _ r s _ _ _ _ _ _ _ _ p q in (u.0, λ i. (u.1 i, (tt, (u.2 i, (u.3 i, (u.4 i, tt)))))))
 
-  ek-card-mark-contract : Contract 𝓛 ek-card-mark.ended (ek-card-mark.spec 𝓛 mem run) (ek-card-mark.clauses 𝓛 mem run)
+  ek_card_mark_contract : Contract 𝓛 ek_card_mark.ended (ek_card_mark.spec 𝓛 mem run) (ek_card_mark.clauses 𝓛 mem run)
       (λ κs a r e.
       Gives (mark_call a.0.now a.1.0.now a.1.1.0.now a.1.1.1.0.now)
       r e.0.now a.1.0.now a.1.1.0.now e.1.1.1.0.now)
-  ek-card-mark-contract =
-      kept 𝓛 ek-card-mark.ended _ _ _ refl (λ κs a. (tt, id⊢ 𝓤 _)) (λ κs a g r e. id⊢ 𝓤 _)
+  ek_card_mark_contract =
+      kept 𝓛 ek_card_mark.ended _ _ _ refl (λ κs a. (tt, id⊢ 𝓤 _)) (λ κs a g r e. id⊢ 𝓤 _)
       (λ κs a r s x y p q. let u : _ = gives_unique _ r s _ _ _ _ _ _ _ _ p q in (u.0, λ i. (u.1 i, (tt, (tt, (u.4 i, tt))))))
 
-  ek-card-power-off-contract : Contract 𝓛 ek-card-power-off.ended (ek-card-power-off.spec 𝓛 mem run) (ek-card-power-off.clauses 𝓛 mem run)
+  ek_card_power_off_contract : Contract 𝓛 ek_card_power_off.ended (ek_card_power_off.spec 𝓛 mem run) (ek_card_power_off.clauses 𝓛 mem run)
       (λ κs a r e.
       Gives (off_call a.0.now a.1.0.now a.1.1.0.now a.1.1.1.0.now)
       r e.0.now a.1.0.now a.1.1.0.now a.1.1.1.0.now)
-  ek-card-power-off-contract =
-      kept 𝓛 ek-card-power-off.ended _ _ _ refl (λ κs a. (tt, id⊢ 𝓤 _)) (λ κs a g r e. id⊢ 𝓤 _)
+  ek_card_power_off_contract =
+      kept 𝓛 ek_card_power_off.ended _ _ _ refl (λ κs a. (tt, id⊢ 𝓤 _)) (λ κs a g r e. id⊢ 𝓤 _)
       (λ κs a r s x y p q. let u : _ = gives_unique _ r s _ _ _ _ _ _ _ _ p q in (u.0, λ i. (u.1 i, (tt, (tt, (tt, tt))))))
 
-  ek-walk-start-contract : Contract 𝓛 ek-walk-start.ended (ek-walk-start.spec 𝓛 mem run) (ek-walk-start.clauses 𝓛 mem run)
+  ek_walk_start_contract : Contract 𝓛 ek_walk_start.ended (ek_walk_start.spec 𝓛 mem run) (ek_walk_start.clauses 𝓛 mem run)
       (λ κs a r e. e.0.now ≡ started a.1.0)
-  ek-walk-start-contract =
-      kept 𝓛 ek-walk-start.ended _ _ _ refl (λ κs a. (tt, id⊢ 𝓤 _)) (λ κs a g r e. id⊢ 𝓤 _)
+  ek_walk_start_contract =
+      kept 𝓛 ek_walk_start.ended _ _ _ refl (λ κs a. (tt, id⊢ 𝓤 _)) (λ κs a g r e. id⊢ 𝓤 _)
       (λ κs a r s x y p q. (refl, λ i. ((p ∙ sym q) i, (tt, tt))))
 
-  ek-walk-hear-silence-contract : Contract 𝓛 ek-walk-hear-silence.ended (ek-walk-hear-silence.spec 𝓛 mem run) (ek-walk-hear-silence.clauses 𝓛 mem run)
+  ek_walk_hear_silence_contract : Contract 𝓛 ek_walk_hear_silence.ended (ek_walk_hear_silence.spec 𝓛 mem run) (ek_walk_hear_silence.clauses 𝓛 mem run)
       (λ κs a r e. HearsInPlace (hearing a.0.now Silence [] a.1.0.now) r e.0.now e.1.0.now)
-  ek-walk-hear-silence-contract =
-      kept 𝓛 ek-walk-hear-silence.ended _ _ _ refl (λ κs a. (tt, id⊢ 𝓤 _)) (λ κs a g r e. id⊢ 𝓤 _)
+  ek_walk_hear_silence_contract =
+      kept 𝓛 ek_walk_hear_silence.ended _ _ _ refl (λ κs a. (tt, id⊢ 𝓤 _)) (λ κs a g r e. id⊢ 𝓤 _)
       (λ κs a r s x y p q. let u : _ = hear_in_place_unique _ r s _ _ _ _ p q in (u.0, λ i. (u.1 i, (u.2 i, tt))))
 
-  ek-walk-hear-clash-contract : Contract 𝓛 ek-walk-hear-clash.ended (ek-walk-hear-clash.spec 𝓛 mem run) (ek-walk-hear-clash.clauses 𝓛 mem run)
+  ek_walk_hear_clash_contract : Contract 𝓛 ek_walk_hear_clash.ended (ek_walk_hear_clash.spec 𝓛 mem run) (ek_walk_hear_clash.clauses 𝓛 mem run)
       (λ κs a r e. HearsInPlace (hearing a.0.now Clash [] a.1.0.now) r e.0.now e.1.0.now)
-  ek-walk-hear-clash-contract =
-      kept 𝓛 ek-walk-hear-clash.ended _ _ _ refl (λ κs a. (tt, id⊢ 𝓤 _)) (λ κs a g r e. id⊢ 𝓤 _)
+  ek_walk_hear_clash_contract =
+      kept 𝓛 ek_walk_hear_clash.ended _ _ _ refl (λ κs a. (tt, id⊢ 𝓤 _)) (λ κs a g r e. id⊢ 𝓤 _)
       (λ κs a r s x y p q. let u : _ = hear_in_place_unique _ r s _ _ _ _ p q in (u.0, λ i. (u.1 i, (u.2 i, tt))))
 
-  ek-walk-hear-bytes-contract : Contract 𝓛 ek-walk-hear-bytes.ended (ek-walk-hear-bytes.spec 𝓛 mem run) (ek-walk-hear-bytes.clauses 𝓛 mem run)
+  ek_walk_hear_bytes_contract : Contract 𝓛 ek_walk_hear_bytes.ended (ek_walk_hear_bytes.spec 𝓛 mem run) (ek_walk_hear_bytes.clauses 𝓛 mem run)
       (λ κs a r e. HearsInPlace (hearing a.0.now Bytes a.1.0.now a.1.1.0.now) r e.0.now e.1.1.0.now)
-  ek-walk-hear-bytes-contract =
-      kept 𝓛 ek-walk-hear-bytes.ended _ _ _ refl (λ κs a. (tt, id⊢ 𝓤 _)) (λ κs a g r e. id⊢ 𝓤 _)
+  ek_walk_hear_bytes_contract =
+      kept 𝓛 ek_walk_hear_bytes.ended _ _ _ refl (λ κs a. (tt, id⊢ 𝓤 _)) (λ κs a g r e. id⊢ 𝓤 _)
       (λ κs a r s x y p q. let u : _ = hear_in_place_unique _ r s _ _ _ _ p q in (u.0, λ i. (u.1 i, (tt, (u.2 i, tt)))))
 
-  ek-walk-ask-contract : Contract 𝓛 ek-walk-ask.ended (ek-walk-ask.spec 𝓛 mem run) (ek-walk-ask.clauses 𝓛 mem run)
+  ek_walk_ask_contract : Contract 𝓛 ek_walk_ask.ended (ek_walk_ask.spec 𝓛 mem run) (ek_walk_ask.clauses 𝓛 mem run)
       (λ κs a r e. AsksInPlace (asking a.0.now a.1.0.now) r e.1.0.now)
-  ek-walk-ask-contract =
-      kept 𝓛 ek-walk-ask.ended _ _ _ refl (λ κs a. (tt, id⊢ 𝓤 _)) (λ κs a g r e. id⊢ 𝓤 _)
+  ek_walk_ask_contract =
+      kept 𝓛 ek_walk_ask.ended _ _ _ refl (λ κs a. (tt, id⊢ 𝓤 _)) (λ κs a g r e. id⊢ 𝓤 _)
       (λ κs a r s x y p q. let u : _ = ask_in_place_unique _ r s _ _ p q in (u.0, λ i. (tt, (u.1 i, tt))))
 
-  ek-shared-start-contract : Contract 𝓛 ek-shared-start.ended (ek-shared-start.spec 𝓛 mem run) (ek-shared-start.clauses 𝓛 mem run)
+  ek_shared_start_contract : Contract 𝓛 ek_shared_start.ended (ek_shared_start.spec 𝓛 mem run) (ek_shared_start.clauses 𝓛 mem run)
       (λ κs a r e. StartsInPlace (starting a.0.now a.1.0 a.1.1.0 a.1.1.1.0.now) r e.0.now e.1.1.1.0.now)
-  ek-shared-start-contract =
-      kept 𝓛 ek-shared-start.ended _ _ _ refl (λ κs a. (tt, id⊢ 𝓤 _)) (λ κs a g r e. id⊢ 𝓤 _)
+  ek_shared_start_contract =
+      kept 𝓛 ek_shared_start.ended _ _ _ refl (λ κs a. (tt, id⊢ 𝓤 _)) (λ κs a g r e. id⊢ 𝓤 _)
       (λ κs a r s x y p q. let u : _ = start_shared_in_place_unique _ r s _ _ _ _ p q in (u.0, λ i. (u.1 i, (tt, (tt, (u.2 i, tt))))))
 
-  ek-shared-hear-silence-contract : Contract 𝓛 ek-shared-hear-silence.ended (ek-shared-hear-silence.spec 𝓛 mem run) (ek-shared-hear-silence.clauses 𝓛 mem run)
+  ek_shared_hear_silence_contract : Contract 𝓛 ek_shared_hear_silence.ended (ek_shared_hear_silence.spec 𝓛 mem run) (ek_shared_hear_silence.clauses 𝓛 mem run)
       (λ κs a r e.
       HearsSharedInPlace (shared_hearing a.0.now a.1.0 Silence [] a.1.1.0.now a.1.1.1.0.now)
       r e.0.now e.1.1.0.now e.1.1.1.0.now)
-  ek-shared-hear-silence-contract =
-      kept 𝓛 ek-shared-hear-silence.ended _ _ _ refl (λ κs a. (tt, id⊢ 𝓤 _)) (λ κs a g r e. id⊢ 𝓤 _)
+  ek_shared_hear_silence_contract =
+      kept 𝓛 ek_shared_hear_silence.ended _ _ _ refl (λ κs a. (tt, id⊢ 𝓤 _)) (λ κs a g r e. id⊢ 𝓤 _)
       (λ κs a r s x y p q. let u : _ = hear_shared_in_place_unique _ r s _ _ _ _ _ _ p q in (u.0, λ i. (u.1 i, (tt, (u.2 i, (u.3 i, tt))))))
 
-  ek-shared-hear-clash-contract : Contract 𝓛 ek-shared-hear-clash.ended (ek-shared-hear-clash.spec 𝓛 mem run) (ek-shared-hear-clash.clauses 𝓛 mem run)
+  ek_shared_hear_clash_contract : Contract 𝓛 ek_shared_hear_clash.ended (ek_shared_hear_clash.spec 𝓛 mem run) (ek_shared_hear_clash.clauses 𝓛 mem run)
       (λ κs a r e.
       HearsSharedInPlace (shared_hearing a.0.now a.1.0 Clash [] a.1.1.0.now a.1.1.1.0.now)
       r e.0.now e.1.1.0.now e.1.1.1.0.now)
-  ek-shared-hear-clash-contract =
-      kept 𝓛 ek-shared-hear-clash.ended _ _ _ refl (λ κs a. (tt, id⊢ 𝓤 _)) (λ κs a g r e. id⊢ 𝓤 _)
+  ek_shared_hear_clash_contract =
+      kept 𝓛 ek_shared_hear_clash.ended _ _ _ refl (λ κs a. (tt, id⊢ 𝓤 _)) (λ κs a g r e. id⊢ 𝓤 _)
       (λ κs a r s x y p q. let u : _ = hear_shared_in_place_unique _ r s _ _ _ _ _ _ p q in (u.0, λ i. (u.1 i, (tt, (u.2 i, (u.3 i, tt))))))
 
-  ek-shared-hear-bytes-contract : Contract 𝓛 ek-shared-hear-bytes.ended (ek-shared-hear-bytes.spec 𝓛 mem run) (ek-shared-hear-bytes.clauses 𝓛 mem run)
+  ek_shared_hear_bytes_contract : Contract 𝓛 ek_shared_hear_bytes.ended (ek_shared_hear_bytes.spec 𝓛 mem run) (ek_shared_hear_bytes.clauses 𝓛 mem run)
       (λ κs a r e.
       HearsSharedInPlace (shared_hearing a.0.now a.1.0 Bytes a.1.1.0.now a.1.1.1.0.now a.1.1.1.1.0.now)
       r e.0.now e.1.1.1.0.now e.1.1.1.1.0.now)
-  ek-shared-hear-bytes-contract =
-      kept 𝓛 ek-shared-hear-bytes.ended _ _ _ refl (λ κs a. (tt, id⊢ 𝓤 _)) (λ κs a g r e. id⊢ 𝓤 _)
+  ek_shared_hear_bytes_contract =
+      kept 𝓛 ek_shared_hear_bytes.ended _ _ _ refl (λ κs a. (tt, id⊢ 𝓤 _)) (λ κs a g r e. id⊢ 𝓤 _)
       (λ κs a r s x y p q. let u : _ = hear_shared_in_place_unique _ r s _ _ _ _ _ _ p q in (u.0, λ i. (u.1 i, (tt, (tt, (u.2 i, (u.3 i, tt)))))))
 
-  ek-make-contract : Contract 𝓛 ek-make.ended (ek-make.spec 𝓛 mem run) (ek-make.clauses 𝓛 mem run)
+  ek_make_contract : Contract 𝓛 ek_make.ended (ek_make.spec 𝓛 mem run) (ek_make.clauses 𝓛 mem run)
       (λ κs a r e. Makes a.0 a.1.0.now a.1.1.0.now r e.1.1.0.now)
-  ek-make-contract =
-      kept 𝓛 ek-make.ended _ _ _ refl (λ κs a. (tt, id⊢ 𝓤 _)) (λ κs a g r e. id⊢ 𝓤 _)
+  ek_make_contract =
+      kept 𝓛 ek_make.ended _ _ _ refl (λ κs a. (tt, id⊢ 𝓤 _)) (λ κs a g r e. id⊢ 𝓤 _)
       (λ κs a r s x y p q. let u : _ = make_unique _ _ _ p q in (u.0, λ i. (tt, (tt, (u.1 i, tt)))))
 
-  ek-read-contract : Contract 𝓛 ek-read.ended (ek-read.spec 𝓛 mem run) (ek-read.clauses 𝓛 mem run)
+  ek_read_contract : Contract 𝓛 ek_read.ended (ek_read.spec 𝓛 mem run) (ek_read.clauses 𝓛 mem run)
       (λ κs a r e.
       ReadsByValue (reading a.0 a.1.0.now a.1.1.0.now a.1.1.1.0.now) r e.1.1.0.now e.1.1.1.0.now)
-  ek-read-contract =
-      kept 𝓛 ek-read.ended _ _ _ refl (λ κs a. (tt, id⊢ 𝓤 _)) (λ κs a g r e. id⊢ 𝓤 _)
+  ek_read_contract =
+      kept 𝓛 ek_read.ended _ _ _ refl (λ κs a. (tt, id⊢ 𝓤 _)) (λ κs a g r e. id⊢ 𝓤 _)
       (λ κs a r s x y p q. let u : _ = read_by_value_unique _ r s _ _ _ _ p q in (u.0, λ i. (tt, (tt, (u.1 i, (u.2 i, tt))))))

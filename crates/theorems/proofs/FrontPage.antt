@@ -39,9 +39,9 @@ use Rattle.coil.specs.Read.{TrackReads, Tells}
 use Rattle.coil.specs.Overlay.{Answers, Overlays}
 use Rattle.coil.specs.Examples.{Coil}
 use Rattle.coil.proofs.Back.{answer_coded, answer-of-code}
-use Rattle.coil.proofs.Read as coil-read
+use Rattle.coil.proofs.Read as coil_read
 use Rattle.coil.proofs.Overlay.{overlays}
-use Rattle.coil.proofs.Examples as coil-examples
+use Rattle.coil.proofs.Examples as coil_examples
 use Rattle.card.specs.declared.Card.{Card}
 use Rattle.card.specs.declared.Mode.TheVariants.{Ready, Quiet, Selected}
 use Rattle.card.specs.Record.{cleared}
@@ -594,11 +594,11 @@ decoding_a_coded_answer = answer-of-code
 -- length is wrong. In the last three nothing is written.
 what_the_coil_says : (t found : List ℕ) (r : ℤ) (left : List ℕ) → longest_answer ≤ length found → DecodesAnswer t found r left → Bytes t
     → TrackReads t found r left
-what_the_coil_says = coil-read.what-is-read
+what_the_coil_says = coil_read.what-is-read
 
 -- And of what is read, the number that is told: an answer's length, 131,072 and the bit of a clash, 262,144 and that of a loss, or minus 12.
 what_the_coil_tells : (t found : List ℕ) (r : ℤ) (left : List ℕ) → longest_answer ≤ length found → DecodesAnswer t found r left → Tells t found r left
-what_the_coil_tells = coil-read.what-is-told
+what_the_coil_tells = coil_read.what-is-told
 
 -- Answers laid over each other: identical ones are read as that answer; others of one length as a clash at the first bit in which they are not all alike,
 -- and of any lengths as a clash. B8 stands last alone in all of these.
@@ -736,7 +736,7 @@ examples =
     record {
       of_checks = checks;
       of_tracks = tracks;
-      of_coil = coil-examples.coil;
+      of_coil = coil_examples.coil;
       of_cards = card_examples;
       of_walks = walks;
       of_three = field_of_three;

@@ -25,25 +25,25 @@ use Rattle.reader.proofs.UniqueRead.{read_unique}
 use Rattle.row.proofs.Unique.{listen_row_unique}
 use Rattle.report.proofs.Unique.{prints_unique}
 use Rattle.picture.proofs.Unique.{pictures_unique}
-use Rattle.walk.specs.contracts.Walk.ask as walk-ask
-use Rattle.walk.specs.contracts.Walk.hear as walk-hear
-use Rattle.walk.specs.contracts.Walk.start_shared as walk-start-shared
-use Rattle.walk.specs.contracts.Walk.hear_shared as walk-hear-shared
+use Rattle.walk.specs.contracts.Walk.ask as walk_ask
+use Rattle.walk.specs.contracts.Walk.hear as walk_hear
+use Rattle.walk.specs.contracts.Walk.start_shared as walk_start_shared
+use Rattle.walk.specs.contracts.Walk.hear_shared as walk_hear_shared
 use Rattle.walk.specs.contracts.Walk.start as walk_start
-use Rattle.walk.specs.contracts.Walk.mask as walk-mask
-use Rattle.walk.specs.contracts.Walk.is_accepted as walk-is-accepted
-use Rattle.reader.specs.contracts.Request.make as request-make
-use Rattle.reader.specs.contracts.Request.read as request-read
+use Rattle.walk.specs.contracts.Walk.mask as walk_mask
+use Rattle.walk.specs.contracts.Walk.is_accepted as walk_is_accepted
+use Rattle.reader.specs.contracts.Request.make as request_make
+use Rattle.reader.specs.contracts.Request.read as request_read
 use Rattle.row.specs.contracts.play.fresh as Row-fresh
-use Rattle.row.specs.contracts.play.deal as row-deal
-use Rattle.row.specs.contracts.play.hear as row-hear
-use Rattle.row.specs.contracts.play.slot as row-slot
-use Rattle.row.specs.contracts.play.goes_on as row-goes-on
-use Rattle.row.specs.contracts.play.play as row-play
-use Rattle.row.specs.contracts.row.listen_row as row-listen-row
-use Rattle.lines.specs.contracts.read as lines-read
-use Rattle.report.specs.contracts.bench.bench as report-bench
-use Rattle.picture.specs.contracts.picture.picture as picture-picture
+use Rattle.row.specs.contracts.play.deal as row_deal
+use Rattle.row.specs.contracts.play.hear as row_hear
+use Rattle.row.specs.contracts.play.slot as row_slot
+use Rattle.row.specs.contracts.play.goes_on as row_goes_on
+use Rattle.row.specs.contracts.play.play as row_play
+use Rattle.row.specs.contracts.row.listen_row as row_listen_row
+use Rattle.lines.specs.contracts.read as lines_read
+use Rattle.report.specs.contracts.bench.bench as report_bench
+use Rattle.picture.specs.contracts.picture.picture as picture_picture
 use Rattle.theorems.specs.Contract.{Contract}
 use Rattle.theorems.proofs.Kept.{kept}
 
@@ -51,108 +51,108 @@ use Rattle.theorems.proofs.Kept.{kept}
 module _ {M : Type 1} {𝓤 : Ura M} (𝓛 : Logic 𝓤) (mem : Memory → SProp 𝓤) (run : Routine → Fun 𝓤) where
   -- ---- walk
 
-  walk-ask-contract : Contract 𝓛 walk-ask.ended (walk-ask.spec 𝓛 mem run) (walk-ask.clauses 𝓛 mem run)
+  walk_ask_contract : Contract 𝓛 walk_ask.ended (walk_ask.spec 𝓛 mem run) (walk_ask.clauses 𝓛 mem run)
       (λ κs a r e. Asks a.0 (asking a.0 a.1.0.now) r e.1.0.now)
-  walk-ask-contract =
-      kept 𝓛 walk-ask.ended _ _ _ refl (λ κs a. (tt, id⊢ 𝓤 _)) (λ κs a g r e. id⊢ 𝓤 _)
+  walk_ask_contract =
+      kept 𝓛 walk_ask.ended _ _ _ refl (λ κs a. (tt, id⊢ 𝓤 _)) (λ κs a g r e. id⊢ 𝓤 _)
       (λ κs a r s x y p q. let u : _ = ask_unique _ _ r s _ _ p q in (u.0, λ i. (tt, (u.1 i, tt))))
 
-  walk-hear-contract : Contract 𝓛 walk-hear.ended (walk-hear.spec 𝓛 mem run) (walk-hear.clauses 𝓛 mem run)
+  walk_hear_contract : Contract 𝓛 walk_hear.ended (walk_hear.spec 𝓛 mem run) (walk_hear.clauses 𝓛 mem run)
       (λ κs a r e. Hears (hearing a.0 a.1.0 a.1.1.0.now a.1.1.1.0.now) r e.1.1.1.0.now)
-  walk-hear-contract =
-      kept 𝓛 walk-hear.ended _ _ _ refl (λ κs a. (tt, id⊢ 𝓤 _)) (λ κs a g r e. id⊢ 𝓤 _)
+  walk_hear_contract =
+      kept 𝓛 walk_hear.ended _ _ _ refl (λ κs a. (tt, id⊢ 𝓤 _)) (λ κs a g r e. id⊢ 𝓤 _)
       (λ κs a r s x y p q. let u : _ = hear_unique _ r s _ _ p q in (u.0, λ i. (tt, (tt, (tt, (u.1 i, tt))))))
 
-  walk-start-shared-contract : Contract 𝓛 walk-start-shared.ended (walk-start-shared.spec 𝓛 mem run) (walk-start-shared.clauses 𝓛 mem run)
+  walk_start_shared_contract : Contract 𝓛 walk_start_shared.ended (walk_start_shared.spec 𝓛 mem run) (walk_start_shared.clauses 𝓛 mem run)
       (λ κs a r e. Starts (starting a.0 a.1.0 a.1.1.0 a.1.1.1.0.now) r e.1.1.1.0.now)
-  walk-start-shared-contract =
-      kept 𝓛 walk-start-shared.ended _ _ _ refl (λ κs a. (tt, id⊢ 𝓤 _)) (λ κs a g r e. id⊢ 𝓤 _)
+  walk_start_shared_contract =
+      kept 𝓛 walk_start_shared.ended _ _ _ refl (λ κs a. (tt, id⊢ 𝓤 _)) (λ κs a g r e. id⊢ 𝓤 _)
       (λ κs a r s x y p q. let u : _ = start_shared_unique _ r s _ _ p q in (u.0, λ i. (tt, (tt, (tt, (u.1 i, tt))))))
 
-  walk-hear-shared-contract : Contract 𝓛 walk-hear-shared.ended (walk-hear-shared.spec 𝓛 mem run) (walk-hear-shared.clauses 𝓛 mem run)
+  walk_hear_shared_contract : Contract 𝓛 walk_hear_shared.ended (walk_hear_shared.spec 𝓛 mem run) (walk_hear_shared.clauses 𝓛 mem run)
       (λ κs a r e.
       HearsShared (shared_hearing a.0 a.1.0 a.1.1.0 a.1.1.1.0.now a.1.1.1.1.0.now a.1.1.1.1.1.0.now)
       r e.1.1.1.1.0.now e.1.1.1.1.1.0.now)
-  walk-hear-shared-contract =
-      kept 𝓛 walk-hear-shared.ended _ _ _ refl (λ κs a. (tt, id⊢ 𝓤 _)) (λ κs a g r e. id⊢ 𝓤 _)
+  walk_hear_shared_contract =
+      kept 𝓛 walk_hear_shared.ended _ _ _ refl (λ κs a. (tt, id⊢ 𝓤 _)) (λ κs a g r e. id⊢ 𝓤 _)
       (λ κs a r s x y p q. let u : _ = hear_shared_unique _ r s _ _ _ _ p q in (u.0, λ i. (tt, (tt, (tt, (tt, (u.1 i, (u.2 i, tt))))))))
 
-  walk-start-contract : Contract 𝓛 walk_start.ended (walk_start.spec 𝓛 mem run) (walk_start.clauses 𝓛 mem run)
+  walk_start_contract : Contract 𝓛 walk_start.ended (walk_start.spec 𝓛 mem run) (walk_start.clauses 𝓛 mem run)
       (λ κs a r e. r ≡ started a.0)
-  walk-start-contract = kept 𝓛 walk_start.ended _ _ _ refl (λ κs a. (tt, id⊢ 𝓤 _)) (λ κs a g r e. id⊢ 𝓤 _) (λ κs a r s x y p q. (p ∙ sym q, refl))
+  walk_start_contract = kept 𝓛 walk_start.ended _ _ _ refl (λ κs a. (tt, id⊢ 𝓤 _)) (λ κs a g r e. id⊢ 𝓤 _) (λ κs a r s x y p q. (p ∙ sym q, refl))
 
-  walk-mask-contract : Contract 𝓛 walk-mask.ended (walk-mask.spec 𝓛 mem run) (walk-mask.clauses 𝓛 mem run) (λ κs a r e. r ≡ whole_mask a.0)
-  walk-mask-contract = kept 𝓛 walk-mask.ended _ _ _ refl (λ κs a. (tt, id⊢ 𝓤 _)) (λ κs a g r e. id⊢ 𝓤 _) (λ κs a r s x y p q. (p ∙ sym q, refl))
+  walk_mask_contract : Contract 𝓛 walk_mask.ended (walk_mask.spec 𝓛 mem run) (walk_mask.clauses 𝓛 mem run) (λ κs a r e. r ≡ whole_mask a.0)
+  walk_mask_contract = kept 𝓛 walk_mask.ended _ _ _ refl (λ κs a. (tt, id⊢ 𝓤 _)) (λ κs a g r e. id⊢ 𝓤 _) (λ κs a r s x y p q. (p ∙ sym q, refl))
 
-  walk-is-accepted-contract : Contract 𝓛 walk-is-accepted.ended (walk-is-accepted.spec 𝓛 mem run) (walk-is-accepted.clauses 𝓛 mem run)
+  walk_is_accepted_contract : Contract 𝓛 walk_is_accepted.ended (walk_is_accepted.spec 𝓛 mem run) (walk_is_accepted.clauses 𝓛 mem run)
       (λ κs a r e. r ≡ is_accepted a.0)
-  walk-is-accepted-contract = kept 𝓛 walk-is-accepted.ended _ _ _ refl (λ κs a. (tt, id⊢ 𝓤 _)) (λ κs a g r e. id⊢ 𝓤 _) (λ κs a r s x y p q. (p ∙ sym q, refl))
+  walk_is_accepted_contract = kept 𝓛 walk_is_accepted.ended _ _ _ refl (λ κs a. (tt, id⊢ 𝓤 _)) (λ κs a g r e. id⊢ 𝓤 _) (λ κs a r s x y p q. (p ∙ sym q, refl))
 
   -- ---- reader
 
-  request-make-contract : Contract 𝓛 request-make.ended (request-make.spec 𝓛 mem run) (request-make.clauses 𝓛 mem run)
+  request_make_contract : Contract 𝓛 request_make.ended (request_make.spec 𝓛 mem run) (request_make.clauses 𝓛 mem run)
       (λ κs a r e. Makes a.0 a.1.0.now a.1.1.0.now r e.1.1.0.now)
-  request-make-contract =
-      kept 𝓛 request-make.ended _ _ _ refl (λ κs a. (tt, id⊢ 𝓤 _)) (λ κs a g r e. id⊢ 𝓤 _)
+  request_make_contract =
+      kept 𝓛 request_make.ended _ _ _ refl (λ κs a. (tt, id⊢ 𝓤 _)) (λ κs a g r e. id⊢ 𝓤 _)
       (λ κs a r s x y p q. let u : _ = make_unique _ _ _ p q in (u.0, λ i. (tt, (tt, (u.1 i, tt)))))
 
-  request-read-contract : Contract 𝓛 request-read.ended (request-read.spec 𝓛 mem run) (request-read.clauses 𝓛 mem run)
+  request_read_contract : Contract 𝓛 request_read.ended (request_read.spec 𝓛 mem run) (request_read.clauses 𝓛 mem run)
       (λ κs a r e.
       Reads (reading a.0 a.1.0.now a.1.1.0.now a.1.1.1.0.now) r e.1.1.0.now e.1.1.1.0.now)
-  request-read-contract =
-      kept 𝓛 request-read.ended _ _ _ refl (λ κs a. (tt, id⊢ 𝓤 _)) (λ κs a g r e. id⊢ 𝓤 _)
+  request_read_contract =
+      kept 𝓛 request_read.ended _ _ _ refl (λ κs a. (tt, id⊢ 𝓤 _)) (λ κs a g r e. id⊢ 𝓤 _)
       (λ κs a r s x y p q. let u : _ = read_unique _ p q in (u.0, λ i. (tt, (tt, (u.1 i, (u.2 i, tt))))))
 
   -- ---- row
 
-  row-fresh-contract : Contract 𝓛 Row-fresh.ended (Row-fresh.spec 𝓛 mem run) (Row-fresh.clauses 𝓛 mem run)
+  row_fresh_contract : Contract 𝓛 Row-fresh.ended (Row-fresh.spec 𝓛 mem run) (Row-fresh.clauses 𝓛 mem run)
       (λ κs a r e. r ≡ fresh_desk)
-  row-fresh-contract = kept 𝓛 Row-fresh.ended _ _ _ refl (λ κs a. (tt, id⊢ 𝓤 _)) (λ κs a g r e. id⊢ 𝓤 _) (λ κs a r s x y p q. (p ∙ sym q, refl))
+  row_fresh_contract = kept 𝓛 Row-fresh.ended _ _ _ refl (λ κs a. (tt, id⊢ 𝓤 _)) (λ κs a g r e. id⊢ 𝓤 _) (λ κs a r s x y p q. (p ∙ sym q, refl))
 
-  row-deal-contract : Contract 𝓛 row-deal.ended (row-deal.spec 𝓛 mem run) (row-deal.clauses 𝓛 mem run)
+  row_deal_contract : Contract 𝓛 row_deal.ended (row_deal.spec 𝓛 mem run) (row_deal.clauses 𝓛 mem run)
       (λ κs a r e. r ≡ cards_of a.0)
-  row-deal-contract = kept 𝓛 row-deal.ended _ _ _ refl (λ κs a. (tt, id⊢ 𝓤 _)) (λ κs a g r e. id⊢ 𝓤 _) (λ κs a r s x y p q. (p ∙ sym q, refl))
+  row_deal_contract = kept 𝓛 row_deal.ended _ _ _ refl (λ κs a. (tt, id⊢ 𝓤 _)) (λ κs a g r e. id⊢ 𝓤 _) (λ κs a r s x y p q. (p ∙ sym q, refl))
 
-  row-hear-contract : Contract 𝓛 row-hear.ended (row-hear.spec 𝓛 mem run) (row-hear.clauses 𝓛 mem run)
+  row_hear_contract : Contract 𝓛 row_hear.ended (row_hear.spec 𝓛 mem run) (row_hear.clauses 𝓛 mem run)
       (λ κs a r e. r ≡ desk_after a.0 a.1.0)
-  row-hear-contract = kept 𝓛 row-hear.ended _ _ _ refl (λ κs a. (tt, id⊢ 𝓤 _)) (λ κs a g r e. id⊢ 𝓤 _) (λ κs a r s x y p q. (p ∙ sym q, refl))
+  row_hear_contract = kept 𝓛 row_hear.ended _ _ _ refl (λ κs a. (tt, id⊢ 𝓤 _)) (λ κs a g r e. id⊢ 𝓤 _) (λ κs a r s x y p q. (p ∙ sym q, refl))
 
-  row-slot-contract : Contract 𝓛 row-slot.ended (row-slot.spec 𝓛 mem run) (row-slot.clauses 𝓛 mem run)
+  row_slot_contract : Contract 𝓛 row_slot.ended (row_slot.spec 𝓛 mem run) (row_slot.clauses 𝓛 mem run)
       (λ κs a r e. r ≡ slotted a.0 a.1.0 a.1.1.0)
-  row-slot-contract = kept 𝓛 row-slot.ended _ _ _ refl (λ κs a. (tt, id⊢ 𝓤 _)) (λ κs a g r e. id⊢ 𝓤 _) (λ κs a r s x y p q. (p ∙ sym q, refl))
+  row_slot_contract = kept 𝓛 row_slot.ended _ _ _ refl (λ κs a. (tt, id⊢ 𝓤 _)) (λ κs a g r e. id⊢ 𝓤 _) (λ κs a r s x y p q. (p ∙ sym q, refl))
 
-  row-goes-on-contract : Contract 𝓛 row-goes-on.ended (row-goes-on.spec 𝓛 mem run) (row-goes-on.clauses 𝓛 mem run)
+  row_goes_on_contract : Contract 𝓛 row_goes_on.ended (row_goes_on.spec 𝓛 mem run) (row_goes_on.clauses 𝓛 mem run)
       (λ κs a r e. r ≡ goes_on a.0 a.1.0)
-  row-goes-on-contract = kept 𝓛 row-goes-on.ended _ _ _ refl (λ κs a. (tt, id⊢ 𝓤 _)) (λ κs a g r e. id⊢ 𝓤 _) (λ κs a r s x y p q. (p ∙ sym q, refl))
+  row_goes_on_contract = kept 𝓛 row_goes_on.ended _ _ _ refl (λ κs a. (tt, id⊢ 𝓤 _)) (λ κs a g r e. id⊢ 𝓤 _) (λ κs a r s x y p q. (p ∙ sym q, refl))
 
-  row-play-contract : Contract 𝓛 row-play.ended (row-play.spec 𝓛 mem run) (row-play.clauses 𝓛 mem run)
+  row_play_contract : Contract 𝓛 row_play.ended (row_play.spec 𝓛 mem run) (row_play.clauses 𝓛 mem run)
       (λ κs a r e. r ≡ ended (take a.1.0 a.0))
-  row-play-contract = kept 𝓛 row-play.ended _ _ _ refl (λ κs a. (tt, id⊢ 𝓤 _)) (λ κs a g r e. id⊢ 𝓤 _) (λ κs a r s x y p q. (p ∙ sym q, refl))
+  row_play_contract = kept 𝓛 row_play.ended _ _ _ refl (λ κs a. (tt, id⊢ 𝓤 _)) (λ κs a g r e. id⊢ 𝓤 _) (λ κs a r s x y p q. (p ∙ sym q, refl))
 
-  row-listen-row-contract : Contract 𝓛 row-listen-row.ended (row-listen-row.spec 𝓛 mem run) (row-listen-row.clauses 𝓛 mem run)
+  row_listen_row_contract : Contract 𝓛 row_listen_row.ended (row_listen_row.spec 𝓛 mem run) (row_listen_row.clauses 𝓛 mem run)
       (λ κs a r e. HearsRow a.1.0 a.0.now r e.0.now)
-  row-listen-row-contract =
-      kept 𝓛 row-listen-row.ended _ _ _ refl (λ κs a. (tt, id⊢ 𝓤 _)) (λ κs a g r e. id⊢ 𝓤 _)
+  row_listen_row_contract =
+      kept 𝓛 row_listen_row.ended _ _ _ refl (λ κs a. (tt, id⊢ 𝓤 _)) (λ κs a g r e. id⊢ 𝓤 _)
       (λ κs a r s x y p q. let u : _ = listen_row_unique _ _ r s _ _ p q in (u.0, λ i. (u.1 i, (tt, tt))))
 
   -- ---- lines
 
-  lines-read-contract : Contract 𝓛 lines-read.ended (lines-read.spec 𝓛 mem run) (lines-read.clauses 𝓛 mem run)
+  lines_read_contract : Contract 𝓛 lines_read.ended (lines_read.spec 𝓛 mem run) (lines_read.clauses 𝓛 mem run)
       (λ κs a r e. r ≡ read_from fresh_lines a.0.now)
-  lines-read-contract = kept 𝓛 lines-read.ended _ _ _ refl (λ κs a. (tt, id⊢ 𝓤 _)) (λ κs a g r e. id⊢ 𝓤 _) (λ κs a r s x y p q. (p ∙ sym q, refl))
+  lines_read_contract = kept 𝓛 lines_read.ended _ _ _ refl (λ κs a. (tt, id⊢ 𝓤 _)) (λ κs a g r e. id⊢ 𝓤 _) (λ κs a r s x y p q. (p ∙ sym q, refl))
 
   -- ---- report
 
-  report-bench-contract : Contract 𝓛 report-bench.ended (report-bench.spec 𝓛 mem run) (report-bench.clauses 𝓛 mem run)
+  report_bench_contract : Contract 𝓛 report_bench.ended (report_bench.spec 𝓛 mem run) (report_bench.clauses 𝓛 mem run)
       (λ κs a r e. Prints a.0.now a.1.0.now r e.1.0.now)
-  report-bench-contract =
-      kept 𝓛 report-bench.ended _ _ _ refl (λ κs a. (tt, id⊢ 𝓤 _)) (λ κs a g r e. id⊢ 𝓤 _)
+  report_bench_contract =
+      kept 𝓛 report_bench.ended _ _ _ refl (λ κs a. (tt, id⊢ 𝓤 _)) (λ κs a g r e. id⊢ 𝓤 _)
       (λ κs a r s x y p q. let u : _ = prints_unique _ _ r s _ _ p q in (u.0, λ i. (tt, (u.1 i, tt))))
 
   -- ---- picture
 
-  picture-picture-contract : Contract 𝓛 picture-picture.ended (picture-picture.spec 𝓛 mem run) (picture-picture.clauses 𝓛 mem run)
+  picture_picture_contract : Contract 𝓛 picture_picture.ended (picture_picture.spec 𝓛 mem run) (picture_picture.clauses 𝓛 mem run)
       (λ κs a r e. Pictures a.0.now a.1.0.now r e.1.0.now)
-  picture-picture-contract =
-      kept 𝓛 picture-picture.ended _ _ _ refl (λ κs a. (tt, id⊢ 𝓤 _)) (λ κs a g r e. id⊢ 𝓤 _)
+  picture_picture_contract =
+      kept 𝓛 picture_picture.ended _ _ _ refl (λ κs a. (tt, id⊢ 𝓤 _)) (λ κs a g r e. id⊢ 𝓤 _)
       (λ κs a r s x y p q. let u : _ = pictures_unique _ _ r s _ _ p q in (u.0, λ i. (tt, (u.1 i, tt))))
