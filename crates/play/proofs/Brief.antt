@@ -1,14 +1,11 @@
 -- Replies that need no memory: which they are, that they fit any card, and that their bytes are the same over any memory. By the reply.
 -- Assumes nothing.
 use mathlib.Core.Path.{◌≡◌, refl}
-use mathlib.Core.Bool.{true, false}
-use mathlib.Core.List.{List, [], ◌∷◌}
+use mathlib.Core.Bool.{Bool, true, false}
+use mathlib.Core.List.{List, []}
 use Prim.Native.Nat.{ℕ, ◌≤◌}
 use native.Mathlib.Omega.{arith}
 use lib.ListN.{length}
-use types.Run.{OneOf, miss}
-use denote.Enum.Declared.{tag_of}
-use Rattle.card.specs.contracts.Reply.{the_type}
 use Rattle.card.specs.declared.Card.{Card}
 use Rattle.card.specs.declared.Reply.{Reply}
 use Rattle.card.specs.declared.Reply.TheVariants.{Silence, Error, Done, Present, Blocks, Status, Information}
@@ -51,23 +48,26 @@ brief_most c (Blocks first n option) h = absurd (not_brief h)
 brief_most c (Status first n) h = absurd (not_brief h)
 brief_most c Information h = absurd (not_brief h)
 
--- the replies by their tags
-pub is_brief_lem : (reply : Reply) → OneOf (0 ∷ 1 ∷ 2 ∷ 3 ∷ []) (tag_of the_type reply) → is_brief reply ≡ true
+-- the replies by what they are not
+pub is_brief_lem : (reply : Reply)
+    → ((first n : ℕ) (option : Bool) → reply ≡ Blocks first n option → ⊥) → ((first n : ℕ) → reply ≡ Status first n → ⊥)
+    → (reply ≡ Information → ⊥) → is_brief reply ≡ true
 unfolding is_brief
-is_brief_lem Silence h = refl
-is_brief_lem (Error code) h = refl
-is_brief_lem Done h = refl
-is_brief_lem Present h = refl
-is_brief_lem (Blocks first n option) h = absurd (miss (0 ∷ 1 ∷ 2 ∷ 3 ∷ []) 4 tt h)
-is_brief_lem (Status first n) h = absurd (miss (0 ∷ 1 ∷ 2 ∷ 3 ∷ []) 5 tt h)
-is_brief_lem Information h = absurd (miss (0 ∷ 1 ∷ 2 ∷ 3 ∷ []) 6 tt h)
+is_brief_lem Silence b s i = refl
+is_brief_lem (Error code) b s i = refl
+is_brief_lem Done b s i = refl
+is_brief_lem Present b s i = refl
+is_brief_lem (Blocks first n option) b s i = absurd (b first n option refl)
+is_brief_lem (Status first n) b s i = absurd (s first n refl)
+is_brief_lem Information b s i = absurd (i refl)
 
-pub brief_silence : (reply : Reply) → OneOf (0 ∷ 4 ∷ 5 ∷ 6 ∷ []) (tag_of the_type reply) → is_brief reply ≡ true → reply ≡ Silence
+pub brief_silence : (reply : Reply)
+    → ((code : ℕ) → reply ≡ Error code → ⊥) → (reply ≡ Done → ⊥) → (reply ≡ Present → ⊥) → is_brief reply ≡ true → reply ≡ Silence
 unfolding is_brief
-brief_silence Silence k h = refl
-brief_silence (Error code) k h = absurd (miss (0 ∷ 4 ∷ 5 ∷ 6 ∷ []) 1 tt k)
-brief_silence Done k h = absurd (miss (0 ∷ 4 ∷ 5 ∷ 6 ∷ []) 2 tt k)
-brief_silence Present k h = absurd (miss (0 ∷ 4 ∷ 5 ∷ 6 ∷ []) 3 tt k)
-brief_silence (Blocks first n option) k h = absurd (not_brief h)
-brief_silence (Status first n) k h = absurd (not_brief h)
-brief_silence Information k h = absurd (not_brief h)
+brief_silence Silence e d p h = refl
+brief_silence (Error code) e d p h = absurd (e code refl)
+brief_silence Done e d p h = absurd (d refl)
+brief_silence Present e d p h = absurd (p refl)
+brief_silence (Blocks first n option) e d p h = absurd (not_brief h)
+brief_silence (Status first n) e d p h = absurd (not_brief h)
+brief_silence Information e d p h = absurd (not_brief h)

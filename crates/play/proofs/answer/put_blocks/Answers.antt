@@ -18,8 +18,8 @@ put_block-at-requires c =
     let loop = c.loop-i in
     let within = block_within (args.first + loop.i) (args.first + args.n) args.size (omega arith) in
     let same = simp length-set at loop.invariant.1 in
-    let room = sofar-room loop.invariant.2 args.n (length args.answer.now) c.loop-i-test.true asked.1.1 in
-    (omega arith, (omega arith, omega arith))
+    let room = sofar-room loop.invariant.2 args.n (length args.answer.now) c.loop-i-test.true asked.option_in_bounds in
+    record { size_in_bounds = omega arith; block_in_bounds = omega arith; option_in_bounds = omega arith }
 
 pub loop-i-preserved : goal.loop-i-preserved
 loop-i-preserved c =
@@ -29,7 +29,7 @@ loop-i-preserved c =
     let test = c.loop-i-test in
     let put-block = c.put_block-at in
     let within = block_within (args.first + loop.i) (args.first + args.n) args.size (omega arith) in
-    let room = sofar-room loop.invariant.2 args.n (length args.answer.now) test.true asked.1.1 in
+    let room = sofar-room loop.invariant.2 args.n (length args.answer.now) test.true asked.option_in_bounds in
     (omega arith, omega arith, sofar-suc loop.invariant.2 put-block.ensures (omega arith) (rw length-set room))
 
 pub returns : goal.returns
@@ -38,4 +38,4 @@ returns c =
     let asked = c.requires in
     let loop = c.loop-i in
     let past : loop.i ≡ args.n = omega arith in
-    puts_blocks args.answer.now (rw past at loop.invariant.2) asked.0 asked.1.1
+    puts_blocks args.answer.now (rw past at loop.invariant.2) asked.size_in_bounds asked.option_in_bounds

@@ -1,5 +1,5 @@
 -- `play::answer::put_error` meets its contract: its two stores put two bytes. Assumes nothing.
-use mathlib.Core.List.{◌∷◌}
+use mathlib.Core.List.{[], ◌∷◌}
 use Rattle.play.proofs.Answers.{puts_sets}
 use Rattle.play.proofs.answer.put_error.Goals as goal
 

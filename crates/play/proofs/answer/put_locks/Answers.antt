@@ -10,4 +10,4 @@ returns c =
     let copy = c.copy in
     let args = c.args in
     let asked = c.requires in
-    rw copy.ensures (puts_first 0x00 args.n _ _ (length_part args.first args.n args.locks.now asked.0) asked.1)
+    rw copy.ensures (puts_first 0x00 args.n _ _ (length_part args.first args.n args.locks.now asked.n_in_bounds) asked.n_in_bounds_2)

@@ -14,9 +14,12 @@ loop-i-init c = (omega arith, refl, refl)
 pub copy-requires : goal.copy-requires
 copy-requires c =
     let asked = c.requires in
-    let source = source_within _ _ _ _ c.loop-i-test.true asked.0 in
-    let inside = store_within _ _ _ _ c.loop-i-test.true asked.1 in
-    (omega (arith, source), omega (arith, inside, c.loop-i.invariant.1))
+    let source = source_within _ _ _ _ c.loop-i-test.true asked.size_in_bounds in
+    let inside = store_within _ _ _ _ c.loop-i-test.true asked.size_in_bounds_2 in
+    record {
+      n_in_bounds = omega (arith, source);
+      n_in_bounds_2 = omega (arith, inside, c.loop-i.invariant.1);
+    }
 
 pub loop-i-preserved : goal.loop-i-preserved
 unfolding blocks_stored

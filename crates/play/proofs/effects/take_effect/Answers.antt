@@ -9,13 +9,13 @@ use Rattle.play.proofs.effects.take_effect.Goals as goal
 pub store_blocks-requires : goal.store_blocks-requires
 store_blocks-requires c =
     let asked = c.requires in
-    let w = write_within c.in-Write.is asked.0 in
-    (w.source, omega (arith, w.inside, asked.1.0))
+    let w = write_within c.in-Write.is asked.effect_value in
+    record { size_in_bounds = w.source; size_in_bounds_2 = omega (arith, w.inside, asked.memory_len) }
 
 pub bounds-locks-block : goal.bounds-locks-block
 bounds-locks-block c =
     let asked = c.requires in
-    rw asked.1.1 (lock_within c.args.card c.args.frame.now c.in-Lock.is asked.0)
+    rw asked.locks_len (lock_within c.args.card c.args.frame.now c.in-Lock.is asked.effect_value)
 
 pub returns-in-Leave : goal.returns-in-Leave
 unfolding memory_after locks_after

@@ -9,7 +9,10 @@ pub put_reply-n-requires : goal.put_reply-n-requires
 unfolding reply_fits
 put_reply-n-requires c =
     let ready = c.requires.ready in
-    (record { shape = ready.shape; stored = omega (arith, ready.stored); marks = omega (arith, ready.marks); fits = ready.fits }, search rules)
+    record {
+      ready = record { shape = ready.shape; stored = omega (arith, ready.stored); marks = omega (arith, ready.marks); fits = ready.fits };
+      reply_value = search rules;
+    }
 
 pub finish-requires : goal.finish-requires
 finish-requires c = omega (arith, c.put_reply-n.ensures.room)

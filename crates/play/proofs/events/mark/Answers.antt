@@ -21,7 +21,10 @@ put_brief-n-requires c =
     let hear-mark = c.hear_mark-turn in
     let t = mark_ready args.card (length args.memory.now) args.locks.now (length args.answer.now)
     refusal.result hear-mark.result refusal.ensures c.if-number-ne0.false hear-mark.ensures in
-    (t.brief, omega (arith, (room_of hear-mark.result.card (length args.answer.now) t.ready.fits).least))
+    record {
+      reply_value = t.brief;
+      in_bounds = omega (arith, (room_of hear-mark.result.card (length args.answer.now) t.ready.fits).least);
+    }
 
 pub finish-told-requires : goal.finish-told-requires
 finish-told-requires c = omega (arith, c.put_brief-n.ensures.room)
