@@ -20,7 +20,6 @@ use Rattle.play.specs.Refusal.{Accepted}
 use Rattle.play.specs.Events.{replied, mark_event, Leaves}
 use Rattle.reader.specs.declared.Request.{Request}
 use Rattle.reader.specs.Request.{has_option, frame}
-use Rattle.reader.specs.Reading.{reading}
 use Rattle.reader.specs.Shown.{is_called, is_held, mistakes_option, is_outside, relocks, writes_locked, code_of, blocks_held, reading_held, bytes_held, shown_reading, shown_bytes, Shows, memory_written, locks_set}
 use Rattle.reader.specs.Exchange.{Fits, Sent, Exchange, Succeeds, ReadsBack, Written}
 use Rattle.reader.specs.Exchange.Succeeds.{AtOnce, AtMark}

@@ -32,7 +32,11 @@ put_body-n-requires c =
     let passes =
     passes_of_refusal args.self (length args.written.now) (length args.room.now) (sym c.refusal-number.ensures ∙ c.if-number-ne0.false) in
     let head = c.put_head-at in
-    (passes.asked, (passes.fits, omega (arith, passes.enough, head.ensures.count, length_head_most args.self, head.auto.1.0)))
+    record {
+      request_value = passes.asked;
+      written_value = passes.fits;
+      at_in_bounds = omega (arith, passes.enough, head.ensures.count, length_head_most args.self, head.auto.room);
+    }
 
 pub returns : goal.returns
 returns c =
@@ -40,6 +44,6 @@ returns c =
     let passes =
     passes_of_refusal args.self (length args.written.now) (length args.room.now) (sym c.refusal-number.ensures ∙ c.if-number-ne0.false) in
     let seal = c.seal in
-    rw (to_z-of_z w64 seal.result (sfits_of seal.type-inv))
+    rw (to_z-of_z w64 seal.result (sfits_of seal.type_inv))
     (makes_served args.self args.written.now args.room.now c.put_head-at.ensures
     c.put_body-n.ensures seal.ensures passes)

@@ -32,6 +32,22 @@ returns-then-answer-ne0 c =
     reads-error args.self args.answer.now args.blocks.now args.locks.now refusal.ensures c.if-number-ne0.false
     c.if-answer-ne0.true
 
+pub overflow_sub-n : goal.overflow_sub-n
+overflow_sub-n c =
+    let args = c.args in
+    omega (
+      arith,
+      answer-long args.self args.answer.now args.blocks.now args.locks.now c.refusal-number.ensures c.if-number-ne0.false,
+    )
+
+pub slice_bounds-hand_over-count : goal.slice_bounds-hand_over-count
+slice_bounds-hand_over-count c =
+    let args = c.args in
+    omega (
+      arith,
+      answer-long args.self args.answer.now args.blocks.now args.locks.now c.refusal-number.ensures c.if-number-ne0.false,
+    )
+
 pub slice_bounds-hand_over-start : goal.slice_bounds-hand_over-start
 slice_bounds-hand_over-start c =
     let args = c.args in
@@ -47,14 +63,15 @@ hand_over-shown-requires c =
     let refusal = c.refusal-number in
     let good =
     none-refuses args.self args.answer.now args.blocks.now args.locks.now refusal.ensures
-    c.if-number-ne0.false in (
-      good.request,
-      (
-        part-earned args.self args.answer.now args.blocks.now args.locks.now refusal.ensures
-            c.if-number-ne0.false c.if-answer-ne0.false (part_cut args.answer.now),
-        (good.blocks_room, good.locks_room),
-      ),
-    )
+    c.if-number-ne0.false in
+    record {
+      request_value = good.request;
+      part_len =
+          part-earned args.self args.answer.now args.blocks.now args.locks.now refusal.ensures
+          c.if-number-ne0.false c.if-answer-ne0.false (part_cut args.answer.now);
+      request_in_bounds = good.blocks_room;
+      request_in_bounds_2 = good.locks_room;
+    }
 
 pub returns : goal.returns
 returns c =

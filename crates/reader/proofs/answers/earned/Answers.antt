@@ -23,6 +23,22 @@ overflow_mul-result c =
           (omega (arith, lead.ensures, lead_most args.request)),
     )
 
+pub overflow_add-result-then-reads_blocks : goal.overflow_add-result-then-reads_blocks
+overflow_add-result-then-reads_blocks c =
+    let args = c.args in
+    let count = c.count in
+    let lead = c.lead in
+    omega (
+      arith,
+      products_fit count.result (lead.result + args.request.size) (omega (arith, count.ensures, count_most args.request (omega arith)))
+          (omega (arith, lead.ensures, lead_most args.request)),
+    )
+
+pub overflow_add-result-then-request-eq44 : goal.overflow_add-result-then-request-eq44
+overflow_add-result-then-request-eq44 c =
+    let args = c.args in
+    omega (arith, c.count-then-request-eq44.ensures, count_most args.request (omega arith))
+
 pub returns-then-reads_blocks : goal.returns-then-reads_blocks
 unfolding earned
 returns-then-reads_blocks c =

@@ -18,13 +18,12 @@ blocks-requires c =
     rw (
       c.count.ensures,
       lead.ensures,
-    ) (
-      blocks-few args.request is asked.0 (omega arith),
-      (
-        omega (arith, earned-blocks args.request is),
-        (omega (arith, block-bytes-blocks args.request is), omega (arith, lock-bytes-blocks args.request is)),
-      ),
-    )
+    ) (record {
+      size_bound = blocks-few args.request is asked.request_value (omega arith);
+      size_in_bounds = omega (arith, earned-blocks args.request is);
+      size_in_bounds_2 = omega (arith, block-bytes-blocks args.request is);
+      lead_in_bounds = omega (arith, lock-bytes-blocks args.request is);
+    })
 
 pub returns-then-reads_blocks : goal.returns-then-reads_blocks
 returns-then-reads_blocks c =
@@ -43,7 +42,10 @@ locks-requires c =
     let reads-blocks = c.reads_blocks in
     let is : reads_blocks args.request ≡ false = sym reads-blocks.ensures ∙ c.if-reads_blocks.false in
     let all = earned-locks args.request is c.if-request-eq44.true in
-    (omega (arith, count_most args.request (omega arith)), omega (arith, lock-bytes-locks args.request is c.if-request-eq44.true))
+    record {
+      part_len_bound = omega (arith, count_most args.request (omega arith));
+      part_in_bounds = omega (arith, lock-bytes-locks args.request is c.if-request-eq44.true);
+    }
 
 pub returns-then-request-eq44 : goal.returns-then-request-eq44
 returns-then-request-eq44 c =
@@ -52,7 +54,7 @@ returns-then-request-eq44 c =
     let reads-blocks = c.reads_blocks in
     let is : reads_blocks args.request ≡ false = sym reads-blocks.ensures ∙ c.if-reads_blocks.false in
     hands-locks args.request is args.part.now args.blocks.now args.locks.now c.if-request-eq44.true
-    asked.1.0 c.locks.ensures
+    asked.part_len c.locks.ensures
 
 pub information-requires : goal.information-requires
 information-requires c =

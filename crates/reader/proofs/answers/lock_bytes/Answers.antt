@@ -11,7 +11,7 @@ overflow_mul-result c =
     let args = c.args in
     let count = c.count in
     let lead = c.lead in
-    omega (arith, lead_keeps count.result lead.result (omega (arith, lead.ensures, lead_most args.request)), count.type-inv)
+    omega (arith, lead_keeps count.result lead.result (omega (arith, lead.ensures, lead_most args.request)), count.type_inv)
 
 pub returns-then-reads_blocks : goal.returns-then-reads_blocks
 unfolding lock_bytes

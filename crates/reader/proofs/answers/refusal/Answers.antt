@@ -1,5 +1,5 @@
 -- `reader::answers::refusal` meets its contract: the definition goes by the same tests. Assumes nothing.
-use borrow.Author.Tests.{le-leb, lt-leb, not-true, not-false}
+use borrow.Author.Tests.{le-leb, lt-leb}
 use Rattle.reader.specs.Reading.{read_refusal}
 use Rattle.reader.proofs.answers.refusal.Goals as goal
 
@@ -7,7 +7,7 @@ pub returns-then-not-is_request : goal.returns-then-not-is_request
 unfolding read_refusal
 returns-then-not-is_request c =
     let is-request = c.is_request in
-    rw (← is-request.ensures, not-true is-request.result c.if-not-is_request.true)
+    rw (← is-request.ensures, c.if-not-is_request.true)
 
 pub returns-then-blocks-block_bytes : goal.returns-then-blocks-block_bytes
 unfolding read_refusal
@@ -15,7 +15,7 @@ returns-then-blocks-block_bytes c =
     let is-request = c.is_request in
     rw (
       ← is-request.ensures,
-      not-false is-request.result c.if-not-is_request.false,
+      c.if-not-is_request.false,
       ← c.block_bytes.ensures,
       lt-leb _ _ c.if-blocks-block_bytes.true,
     )
@@ -27,7 +27,7 @@ returns-then-locks-lock_bytes c =
     let block-bytes = c.block_bytes in
     rw (
       ← is-request.ensures,
-      not-false is-request.result c.if-not-is_request.false,
+      c.if-not-is_request.false,
       ← block-bytes.ensures,
       le-leb _ _ c.if-blocks-block_bytes.false,
       ← c.lock_bytes.ensures,
@@ -42,7 +42,7 @@ returns-then-is_answer c =
     let lock-bytes = c.lock_bytes in
     rw (
       ← is-request.ensures,
-      not-false is-request.result c.if-not-is_request.false,
+      c.if-not-is_request.false,
       ← block-bytes.ensures,
       le-leb _ _ c.if-blocks-block_bytes.false,
       ← lock-bytes.ensures,
@@ -59,7 +59,7 @@ returns-else-is_answer c =
     let lock-bytes = c.lock_bytes in
     rw (
       ← is-request.ensures,
-      not-false is-request.result c.if-not-is_request.false,
+      c.if-not-is_request.false,
       ← block-bytes.ensures,
       le-leb _ _ c.if-blocks-block_bytes.false,
       ← lock-bytes.ensures,

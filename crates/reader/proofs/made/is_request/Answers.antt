@@ -1,5 +1,5 @@
 -- `reader::made::is_request` meets its contract: the definition goes by the same tests. Assumes nothing.
-use borrow.Author.Tests.{not-true, not-false, le-leb, lt-leb}
+use borrow.Author.Tests.{le-leb, lt-leb}
 use Rattle.reader.specs.Request.{is_request}
 use Rattle.reader.proofs.made.is_request.Goals as goal
 
@@ -7,14 +7,14 @@ pub returns-then-not-is_asked : goal.returns-then-not-is_asked
 unfolding is_request
 returns-then-not-is_asked c =
     let asked = c.is_asked in
-    rw (← asked.ensures, not-true asked.result c.if-not-is_asked.true)
+    rw (← asked.ensures, c.if-not-is_asked.true)
 
 pub returns-then-not-mode_fits : goal.returns-then-not-mode_fits
 unfolding is_request
 returns-then-not-mode_fits c =
     let asked = c.is_asked in
     let fits = c.mode_fits in
-    rw (← asked.ensures, not-false asked.result c.if-not-is_asked.false, ← fits.ensures, not-true fits.result c.if-not-mode_fits.true)
+    rw (← asked.ensures, c.if-not-is_asked.false, ← fits.ensures, c.if-not-mode_fits.true)
 
 pub returns-then-request-lt1 : goal.returns-then-request-lt1
 unfolding is_request
@@ -23,9 +23,9 @@ returns-then-request-lt1 c =
     let fits = c.mode_fits in
     rw (
       ← asked.ensures,
-      not-false asked.result c.if-not-is_asked.false,
+      c.if-not-is_asked.false,
       ← fits.ensures,
-      not-false fits.result c.if-not-mode_fits.false,
+      c.if-not-mode_fits.false,
       lt-leb 1 c.args.request.size c.if-request-lt1.true,
     )
 
@@ -36,8 +36,8 @@ returns c =
     let fits = c.mode_fits in
     rw (
       ← asked.ensures,
-      not-false asked.result c.if-not-is_asked.false,
+      c.if-not-is_asked.false,
       ← fits.ensures,
-      not-false fits.result c.if-not-mode_fits.false,
+      c.if-not-mode_fits.false,
       le-leb 1 c.args.request.size c.if-request-lt1.false,
     )

@@ -8,24 +8,21 @@ use Rattle.reader.proofs.made.put_body.Goals as goal
 
 pub returns-then-is_either : goal.returns-then-is_either
 returns-then-is_either c =
-    let start = c in
-    let args = start.args in
-    puts-block args.request args.written.now args.room.now args.at start.requires.1.1 (sym c.is_either.ensures ∙ c.if-is_either.true)
+    let args = c.args in
+    puts-block args.request args.written.now args.room.now args.at c.requires.at_in_bounds (sym c.is_either.ensures ∙ c.if-is_either.true)
 
 pub copy-requires : goal.copy-requires
 copy-requires c =
-    let start = c in
-    let args = start.args in
-    let few = written_most args.request (length args.written.now) start.requires.0 start.requires.1.0 c.if-command-eq33.true in
-    (omega arith, rw length-set (omega (arith, few)))
+    let args = c.args in
+    let few = written_most args.request (length args.written.now) c.requires.request_value c.requires.written_value c.if-command-eq33.true in
+    record { n_in_bounds = omega arith; n_in_bounds_2 = rw length-set (omega (arith, few)) }
 
 pub returns-then-command-eq33 : goal.returns-then-command-eq33
 returns-then-command-eq33 c =
-    let start = c in
-    let args = start.args in
+    let args = c.args in
     let second = c.if-command-eq33.true in
-    let few = written_most args.request (length args.written.now) start.requires.0 start.requires.1.0 second in
-    puts-written args.request args.written.now args.room.now args.at start.requires.1.1
+    let few = written_most args.request (length args.written.now) c.requires.request_value c.requires.written_value second in
+    puts-written args.request args.written.now args.room.now args.at c.requires.at_in_bounds
     (sym c.is_either.ensures ∙ c.if-is_either.false) second few c.copy.ensures
 
 pub bounds-room-at-then-is_either-2-2 : goal.bounds-room-at-then-is_either-2-2
@@ -33,18 +30,16 @@ bounds-room-at-then-is_either-2-2 c = rw length-set (omega arith)
 
 pub returns-then-is_either-2 : goal.returns-then-is_either-2
 returns-then-is_either-2 c =
-    let start = c in
-    let args = start.args in
-    puts-blocks args.request args.written.now args.room.now args.at start.requires.1.1
+    let args = c.args in
+    puts-blocks args.request args.written.now args.room.now args.at c.requires.at_in_bounds
     (sym c.is_either.ensures ∙ c.if-is_either.false)
     c.if-command-eq33.false
     (sym c.is_either-2.ensures ∙ c.if-is_either-2.true)
 
 pub returns-then-is_either-3 : goal.returns-then-is_either-3
 returns-then-is_either-3 c =
-    let start = c in
-    let args = start.args in
-    puts-value args.request args.written.now args.room.now args.at start.requires.1.1
+    let args = c.args in
+    puts-value args.request args.written.now args.room.now args.at c.requires.at_in_bounds
     (sym c.is_either.ensures ∙ c.if-is_either.false)
     c.if-command-eq33.false
     (sym c.is_either-2.ensures ∙ c.if-is_either-2.false)
@@ -52,9 +47,8 @@ returns-then-is_either-3 c =
 
 pub returns : goal.returns
 returns c =
-    let start = c in
-    let args = start.args in
-    puts-no-body args.request args.written.now args.room.now args.at start.requires.1.1
+    let args = c.args in
+    puts-no-body args.request args.written.now args.room.now args.at c.requires.at_in_bounds
     (sym c.is_either.ensures ∙ c.if-is_either.false)
     c.if-command-eq33.false
     (sym c.is_either-2.ensures ∙ c.if-is_either-2.false)

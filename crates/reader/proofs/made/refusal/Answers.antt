@@ -1,5 +1,5 @@
 -- `reader::made::refusal` meets its contract: the definition goes by the same tests. Assumes nothing.
-use borrow.Author.Tests.{not-true, not-false, le-leb, lt-leb}
+use borrow.Author.Tests.{le-leb, lt-leb}
 use native.Mathlib.Omega.{arith}
 use Rattle.reader.specs.Request.{room_asked, make_refusal}
 use Rattle.reader.proofs.made.refusal.Goals as goal
@@ -8,14 +8,14 @@ pub returns-then-not-is_request : goal.returns-then-not-is_request
 unfolding make_refusal
 returns-then-not-is_request c =
     let asked = c.is_request in
-    rw (← asked.ensures, not-true asked.result c.if-not-is_request.true)
+    rw (← asked.ensures, c.if-not-is_request.true)
 
 pub returns-then-not-data_fits : goal.returns-then-not-data_fits
 unfolding make_refusal
 returns-then-not-data_fits c =
     let asked = c.is_request in
     let fits = c.data_fits in
-    rw (← asked.ensures, not-false asked.result c.if-not-is_request.false, ← fits.ensures, not-true fits.result c.if-not-data_fits.true)
+    rw (← asked.ensures, c.if-not-is_request.false, ← fits.ensures, c.if-not-data_fits.true)
 
 pub returns-then-room-lt-ROOM_ASKED : goal.returns-then-room-lt-ROOM_ASKED
 unfolding make_refusal room_asked
@@ -24,9 +24,9 @@ returns-then-room-lt-ROOM_ASKED c =
     let fits = c.data_fits in
     rw (
       ← asked.ensures,
-      not-false asked.result c.if-not-is_request.false,
+      c.if-not-is_request.false,
       ← fits.ensures,
-      not-false fits.result c.if-not-data_fits.false,
+      c.if-not-data_fits.false,
       lt-leb 45 c.args.room (omega (arith, c.if-room-lt-ROOM_ASKED.true)),
     )
 
@@ -37,8 +37,8 @@ returns-else-room-lt-ROOM_ASKED c =
     let fits = c.data_fits in
     rw (
       ← asked.ensures,
-      not-false asked.result c.if-not-is_request.false,
+      c.if-not-is_request.false,
       ← fits.ensures,
-      not-false fits.result c.if-not-data_fits.false,
+      c.if-not-data_fits.false,
       le-leb 45 c.args.room (omega (arith, c.if-room-lt-ROOM_ASKED.false)),
     )

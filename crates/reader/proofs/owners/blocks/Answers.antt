@@ -27,7 +27,7 @@ copy-requires c =
     let loop = c.loop-i in
     let within = block_inside loop.i args.count (args.lead + args.size) (omega arith) in
     let first = block_inside loop.i args.count args.lead (omega arith) in
-    (omega arith, omega arith)
+    record { n_in_bounds = omega arith; n_in_bounds_2 = omega arith }
 
 pub copy-requires-in-loop-i : goal.copy-requires-in-loop-i
 copy-requires-in-loop-i c =
@@ -35,7 +35,7 @@ copy-requires-in-loop-i c =
     let loop = c.loop-i in
     let within = block_inside loop.i args.count (args.lead + args.size) (omega arith) in
     let second = block_inside loop.i args.count args.size (omega arith) in
-    (omega arith, omega arith)
+    record { n_in_bounds = omega arith; n_in_bounds_2 = omega arith }
 
 pub loop-i-preserved : goal.loop-i-preserved
 loop-i-preserved c =
