@@ -121,6 +121,7 @@ fn put_bytes(track: &[u8], n: usize, answer: &mut [u8])
 }
 
 // What is told of a bad bit: a clash, or else that it is lost.
+#[tactic(auto, unfolding(crate::specs::Steps::bad_bit))]
 fn bad_bit(track: &[u8], k: usize) -> usize
     requires { (1 + k / 4 < length track.now) × (k < 67608) }
     ensures { result ≡ bad_bit track.now k }

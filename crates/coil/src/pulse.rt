@@ -30,6 +30,7 @@ pub(crate) fn flaws_of(b: u8) -> u8
 }
 
 // The first pair that the flaws of a byte name.
+#[tactic(auto, unfolding(crate::specs::Steps::first_of))]
 pub(crate) fn first_of(flaws: u8) -> usize
     ensures { result ≡ first_of flaws }
 {

@@ -12,6 +12,7 @@ ghost use Rattle.digits.specs.Put.{PutsText};
 const ROOM_SHORT: i64 = -8;
 
 // The value of a digit, or 16 for a byte that is none.
+#[tactic(auto, unfolding(crate::specs::Digits::digit_of))]
 pub fn digit_of(b: u8) -> u64
     ensures { result ≡ digit_of b }
 {
@@ -31,6 +32,7 @@ pub fn digit_of(b: u8) -> u64
 }
 
 // The byte of a number's last digit, upper-case.
+#[tactic(auto, unfolding(crate::specs::Digits::digit))]
 pub fn digit(n: u64) -> u8
     ensures { result ≡ digit n }
 {
