@@ -24,7 +24,7 @@ c99 := -std=c99 -Wall -Wextra -Werror -pedantic
 version := $(shell cat VERSION)
 date := $(shell sed -n 's/^## \[$(version)\] - //p' CHANGELOG.md)
 
-.PHONY: help lib programs demo demo-c $(examples) test compare bench install uninstall
+.PHONY: help lib programs $(programs:%=program-%) demo demo-c $(examples) test compare bench install uninstall
 .DELETE_ON_ERROR:
 # One rt at a time.
 .NOTPARALLEL:
@@ -46,20 +46,27 @@ help:
 
 lib: $(lib)
 
-# rt proves the crate anew each time that it writes the archive; it is written where a source is newer.
-$(lib): crates.txt $(shell find crates -name '*.rt' -o -name '*.antt')
-	rt staticlib board
+# Written where a source is newer.
+$(lib): crates.txt $(shell find crates -name out -prune -o '(' -name '*.rt' -o -name '*.antt' ')' -print)
+	cd crates/board_c && rt lib
+	mkdir -p $(dir $(lib))
+	cp crates/board_c/out/libboard_c.a $(lib)
 
-programs:
-	rt check $(programs)
+# rt builds a program that it runs: on no input.
+programs: $(programs:%=program-%)
+
+$(programs:%=program-%): program-%:
+	cd crates/$* && rt run </dev/null
+	mkdir -p target/bin
+	cp crates/$*/out/$* target/bin/$*
 
 # What rt says is kept in target/demo.log, and shown whole where it fails.
 demo:
 	@echo 'Proves the bench and all that it stands on, and builds it: some minutes from a clean clone. Then plays examples/fields/three.txt.'
 	@mkdir -p target && : >target/demo.log
-	@rt check bench >target/demo.log 2>&1 & rt=$$!; \
-	    tail -n +1 -f --pid=$$rt target/demo.log | sed -un 's/^rt: \([a-z]* proved .*\)/\1/p'; \
-	    wait $$rt || { cat target/demo.log; echo 'The bench was not built; target/demo.log has the lines above.'; exit 1; }
+	@$(MAKE) --no-print-directory program-bench >target/demo.log 2>&1 & make=$$!; \
+	    tail -n +1 -f --pid=$$make target/demo.log | sed -un 's/^crate \([a-z]*\): modules .*/\1/p'; \
+	    wait $$make || { cat target/demo.log; echo 'The bench was not built; target/demo.log has the lines above.'; exit 1; }
 	@tools/x86-64 >/dev/null && target/bin/bench <examples/fields/three.txt
 
 demo-c: inventory
@@ -80,8 +87,7 @@ compare:
 	    cargo test --quiet --release --offline --manifest-path independent/Cargo.toml
 	VECTORS_DIR='$(CURDIR)/vectors' target/independent/release/comparison
 
-bench: lib
-	rt check bench
+bench: lib program-bench
 	bench/run
 
 # filled FILE FOLDER: a line that installs a file with version, date and folders put in. The folders of the pkg-config file follow its prefix.
