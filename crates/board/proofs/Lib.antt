@@ -4,7 +4,6 @@ mod Ways
 pub mod CardCalls
 pub mod ReadBack
 pub mod Unique
-mod Records
 mod Numbers
 mod WalkTold
 mod SharedTold

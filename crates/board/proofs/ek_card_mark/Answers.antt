@@ -19,5 +19,5 @@ returns c =
     let settle = c.settle in
     let mark = c.mark-served in
     let read = c.read-card in
-    rw (to_z-of_z w64 settle.result (sfits_of settle.type-inv))
+    rw (to_z-of_z w64 settle.result (sfits_of settle.type_inv))
     (gives-mark _ _ _ _ (rw read.ensures at mark.ensures) settle.ensures)

@@ -19,5 +19,5 @@ returns c =
     let settle = c.settle in
     let power-off = c.power_off-served in
     let read = c.read-card in
-    rw (to_z-of_z w64 settle.result (sfits_of settle.type-inv))
+    rw (to_z-of_z w64 settle.result (sfits_of settle.type_inv))
     (gives-off _ _ _ _ (rw read.ensures at power-off.ensures) settle.ensures)

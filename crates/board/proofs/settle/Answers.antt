@@ -11,7 +11,7 @@ returns-then-number-ne0 c =
     let minus = c.minus in
     let args = c.args in
     let first = c.if-number-ne0 in
-    rw (to_z-of_z w64 minus.result (sfits_of minus.type-inv)) (settles-refused args.served _ first.true minus.ensures)
+    rw (to_z-of_z w64 minus.result (sfits_of minus.type_inv)) (settles-refused args.served _ first.true minus.ensures)
 
 pub returns : goal.returns
 returns c =

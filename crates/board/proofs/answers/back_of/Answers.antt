@@ -8,7 +8,7 @@ use Rattle.board.proofs.Answered.{answer_refused, answer_read}
 use Rattle.board.proofs.answers.back_of.Goals as goal
 
 pub returns-then-number-ne0 : goal.returns-then-number-ne0
-returns-then-number-ne0 c = answer_refused _ _ _ c.if-number-ne0.true (to_z-of_z w64 c.minus.result (sfits_of c.minus.type-inv) ∙ c.minus.ensures)
+returns-then-number-ne0 c = answer_refused _ _ _ c.if-number-ne0.true (to_z-of_z w64 c.minus.result (sfits_of c.minus.type_inv) ∙ c.minus.ensures)
 
 pub returns : goal.returns
 returns c =

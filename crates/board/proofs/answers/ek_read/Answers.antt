@@ -11,4 +11,4 @@ returns c =
     let information = c.information_of in
     let back = c.back_of in
     let read = c.read-told in
-    reads_by_value _ _ _ _ _ read.ensures (to_z-of_z w64 back.result (sfits_of back.type-inv) ∙ back.ensures) information.ensures
+    reads_by_value _ _ _ _ _ read.ensures (to_z-of_z w64 back.result (sfits_of back.type_inv) ∙ back.ensures) information.ensures

@@ -15,14 +15,14 @@ pub returns-then-asked-ne0 : goal.returns-then-asked-ne0
 returns-then-asked-ne0 c =
     let asked = c.ask-asked in
     asks_refused _ _ _ _ _ asked.ensures c.if-asked-ne0.true
-    (to_z-of_z w64 c.minus.result (sfits_of c.minus.type-inv) ∙ c.minus.ensures)
+    (to_z-of_z w64 c.minus.result (sfits_of c.minus.type_inv) ∙ c.minus.ensures)
 
 pub overflow_cast-result : goal.overflow_cast-result
 unfolding levels
 overflow_cast-result c =
     let asked = c.ask-asked in
     let start = c in
-    let long : length start.args.walk.marks ≡ levels = search (rules, start.well-formed) in
+    let long : length start.args.walk.marks ≡ levels = search (rules, start.well_formed) in
     sfits_of (omega (arith, c.length_of.ensures, length_served_most _ _ _ _ (omega (arith, long)) asked.ensures c.if-asked-ne0.false))
 
 pub returns : goal.returns
@@ -30,7 +30,7 @@ unfolding levels
 returns c =
     let asked = c.ask-asked in
     let start = c in
-    let long : length start.args.walk.marks ≡ levels = search (rules, start.well-formed) in
+    let long : length start.args.walk.marks ≡ levels = search (rules, start.well_formed) in
     let most = length_served_most _ _ _ _ (omega (arith, long)) asked.ensures c.if-asked-ne0.false in
     asks_served _ _ _ _ _ asked.ensures c.if-asked-ne0.false
     (to_z_pos w64 _ (omega (arith, c.length_of.ensures, most)) ∙ ap pos c.length_of.ensures)

@@ -14,4 +14,4 @@ overflow_sub-result c =
 
 pub returns : goal.returns
 returns c =
-    to_z-of_z w64 (pos 0 -ℤ to_z w64 c.args.number) (sub-result c) ∙ minus_refused c.args.number (omega arith)
+    to_z-of_z w64 (pos 0 -ℤ to_z w64 c.args.number) (overflow_sub-result c) ∙ minus_refused c.args.number (omega arith)

@@ -9,5 +9,5 @@ use Rattle.board.proofs.in_place.tell.Goals as goal
 pub returns : goal.returns
 unfolding told_of
 returns c =
-    let answer = to_z-of_z w64 c.minus.result (sfits_of c.minus.type-inv) ∙ c.minus.ensures in
+    let answer = to_z-of_z w64 c.minus.result (sfits_of c.minus.type_inv) ∙ c.minus.ensures in
     λ i. record { walk = c.args.heard.walk; answer = answer i }

@@ -1,2 +1,0 @@
-mod NoBytesCode
-mod NoBytes
