@@ -1,6 +1,6 @@
 -- From C an answer that shows no data, an error's or one that is refused, shows nothing: both buffers stay as they were, and the information is all zeros.
 -- By what reading makes of it. Assumes nothing.
-use mathlib.Core.Path.{◌≡◌, refl, sym, ap, ◌∙◌}
+use mathlib.Core.Path.{◌≡◌, refl, sym, ◌∙◌}
 use mathlib.Core.Bool.{false, false≢true}
 use mathlib.Core.List.{List}
 use Prim.Native.Nat.{ℕ}

@@ -85,12 +85,7 @@ pub fn ek_make(request: Request, written: &[u8], frame: &mut [u8]) -> i64
     request.make(written, frame)
 }
 
-pub fn ek_read(
-    request: Request,
-    answer: &[u8],
-    blocks: &mut [u8],
-    locks: &mut [u8],
-) -> Shown
+pub fn ek_read(request: Request, answer: &[u8], blocks: &mut [u8], locks: &mut [u8]) -> Shown
     ensures { ReadsByValue (reading request answer.now blocks.old locks.old) result blocks.new locks.new }
 {
     let told = request.read(answer, blocks, locks);

@@ -104,12 +104,7 @@ pub fn ek_card_frame(
     settle(served, bytes)
 }
 
-pub fn ek_card_mark(
-    bytes: &mut [u8],
-    memory: &[u8],
-    locks: &[u8],
-    answer: &mut [u8],
-) -> i64
+pub fn ek_card_mark(bytes: &mut [u8], memory: &[u8], locks: &[u8], answer: &mut [u8]) -> i64
     ensures { Gives (mark_call bytes.old memory.now locks.now answer.old) result bytes.new memory.now locks.now answer.new }
 {
     let card = record::read(bytes);
@@ -117,12 +112,7 @@ pub fn ek_card_mark(
     settle(served, bytes)
 }
 
-pub fn ek_card_power_off(
-    bytes: &mut [u8],
-    memory: &[u8],
-    locks: &[u8],
-    answer: &[u8],
-) -> i64
+pub fn ek_card_power_off(bytes: &mut [u8], memory: &[u8], locks: &[u8], answer: &[u8]) -> i64
     ensures { Gives (off_call bytes.old memory.now locks.now answer.now) result bytes.new memory.now locks.now answer.now }
 {
     let card = record::read(bytes);

@@ -62,12 +62,7 @@ pub fn ek_shared_hear_silence(
     told.answer
 }
 
-pub fn ek_shared_hear_clash(
-    walk: &mut Walk,
-    rack: u32,
-    rows: &mut [u64],
-    owners: &mut [u8],
-) -> i64
+pub fn ek_shared_hear_clash(walk: &mut Walk, rack: u32, rows: &mut [u64], owners: &mut [u8]) -> i64
     ensures { HearsSharedInPlace (shared_hearing walk.old rack Clash [] rows.old owners.old) result walk.new rows.new owners.new }
 {
     let told = hear_shared_clash(*walk, rack, rows, owners);
