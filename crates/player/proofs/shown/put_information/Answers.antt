@@ -6,9 +6,5 @@ use Rattle.player.proofs.shown.put_information.Goals as goal
 pub returns : goal.returns
 unfolding information_text
 returns c =
-    let shape = c in
-    let afi = shape.before.before.before.before in
-    let dsfid = afi.before.before.before.before.before in
-    let uid = dsfid.before.before.before.before.before in
-    let first = adds_then (adds_then uid.put-digits.ensures dsfid.put-pair.ensures) afi.put-pair2.ensures in
-    adds_then (adds_then first shape.put-shape.ensures) c.put_pair.ensures
+    let first = adds_then (adds_then c.put_digits-uid_end.ensures c.put_pair-dsfid_end.ensures) c.put_pair-afi_end.ensures in
+    adds_then (adds_then first c.put_shape-shape_end.ensures) c.put_pair.ensures

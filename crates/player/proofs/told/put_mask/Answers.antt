@@ -7,7 +7,5 @@ use Rattle.player.proofs.told.put_mask.Goals as goal
 pub returns : goal.returns
 unfolding mask_text
 returns c =
-    let field = c in
-    let mask = field.before.before.before.args.mask in
-    let bytes = field_filled mask _ field.put-field.new.0 field.put-field.ensures (omega arith) in
+    let bytes = field_filled c.args.mask _ c.put_field.new.buffer c.put_field.ensures (omega arith) in
     rw bytes at c.put_named.ensures

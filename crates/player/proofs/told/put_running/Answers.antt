@@ -5,7 +5,4 @@ use Rattle.player.proofs.told.put_running.Goals as goal
 
 pub returns : goal.returns
 unfolding running_text
-returns c =
-    let size = c in
-    let slot = size.before.before.before.before.before in
-    adds_then (adds_then slot.put-pair.ensures size.put-pair2.ensures) c.put_mask.ensures
+returns c = adds_then (adds_then c.put_pair-next.ensures c.put_pair-last.ensures) c.put_mask.ensures
