@@ -33,18 +33,24 @@ pub cards_of_lem : (family : ℕ) (w : Walk) (ts₀ ts : List Tag) → Both (AtS
 unfolding cards cards_left card_left in_step
 cards_of_lem family w [] [] row.none = refl
 cards_of_lem family w (t₀ ∷ ts₀) (t ∷ ts) (row.more h b) = ap₂ (λ (c : Card) (cs : List Card). c ∷ cs) h.card (cards_of_lem family w ts₀ ts b)
+cards_of_lem family w [] (t ∷ ts) b = elim b [ ]
+cards_of_lem family w (t₀ ∷ ts₀) [] b = elim b [ ]
 
 pub memories_of : (family level mask s : ℕ) (ts₀ ts : List Tag) → Both (AtSlot family level mask s) ts₀ ts → memories ts ≡ memories ts₀
 unfolding memories
 memories_of family level mask s [] [] row.none = refl
 memories_of family level mask s (t₀ ∷ ts₀) (t ∷ ts) (row.more h b) =
     ap₂ (λ (m : List ℕ) (ms : List (List ℕ)). m ∷ ms) h.memory (memories_of family level mask s ts₀ ts b)
+memories_of family level mask s [] (t ∷ ts) b = elim b [ ]
+memories_of family level mask s (t₀ ∷ ts₀) [] b = elim b [ ]
 
 pub locks_of : (family level mask s : ℕ) (ts₀ ts : List Tag) → Both (AtSlot family level mask s) ts₀ ts → lock_bytes ts ≡ lock_bytes ts₀
 unfolding lock_bytes
 locks_of family level mask s [] [] row.none = refl
 locks_of family level mask s (t₀ ∷ ts₀) (t ∷ ts) (row.more h b) =
     ap₂ (λ (m : List ℕ) (ms : List (List ℕ)). m ∷ ms) h.locks (locks_of family level mask s ts₀ ts b)
+locks_of family level mask s [] (t ∷ ts) b = elim b [ ]
+locks_of family level mask s (t₀ ∷ ts₀) [] b = elim b [ ]
 
 -- ---- what the verdict means
 

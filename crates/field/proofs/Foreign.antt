@@ -19,7 +19,6 @@ use Rattle.play.specs.Life.{Tag}
 use Rattle.field.specs.Field.{answering, arrives}
 use Rattle.field.specs.Found.{Different, BeginE0, Found}
 use Rattle.field.specs.Demand.{AllObey}
-use Rattle.field.specs.Demand as demand
 use Rattle.field.specs.Foreign.{with_e0, as_heard, FoundAny, AnyUids}
 use Rattle.field.proofs.Called.{called, slot_of, slot_heard}
 use Rattle.field.proofs.Suited.{begin_none, begin_more}

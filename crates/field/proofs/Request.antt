@@ -19,7 +19,7 @@ use Rattle.card.specs.declared.Sequence.TheVariants.{Running}
 use Rattle.card.specs.Record.{is_quiet, in_sequence}
 use Rattle.card.specs.Inventory.{turn, still, length_place, mask_limit, mask_of, total_length}
 use Rattle.slots.specs.Fits.{mask_bytes, fits_slot}
-use Rattle.card.specs.Inventory.{fits_family, takes_part_lem, present, joins, is_inventory, inventoried}
+use Rattle.card.specs.Inventory.{fits_family, takes_part, present, joins, is_inventory, inventoried}
 
 -- eight bits are a byte
 bytes_of_bits : (k : ℕ) → 2 ^ (8 * k) ≡ 256 ^ k

@@ -12,7 +12,7 @@ use Rattle.walk.specs.declared.Walk.{Walk}
 use Rattle.walk.specs.declared.Slot.{Slot}
 use Rattle.walk.specs.declared.Kind.{Kind}
 use Rattle.walk.specs.Marks.{deepest}
-use Rattle.walk.specs.Record.{levels_of, most_rounds, is_running, remade, ended, counted, at_next_slot, opened_at, opened}
+use Rattle.walk.specs.Record.{levels_of, most_rounds, is_running, remade, ended, at_next_slot, opened_at, opened}
 use Rattle.walk.specs.Hear.{judged, has_place, ends_at_once, noted, turned, passed, walk_after, refusal, Hearing, hearing}
 use Rattle.walk.specs.Ask.{Asking, asking}
 use Rattle.walk.proofs.HearWays.{served_of_refusal}

@@ -33,6 +33,8 @@ module _ (family : ℕ) (w : Walk) (send : Send) (sent : List ℕ) where
   unfolding tags_after
   row_at [] [] demand.none none = none
   row_at (t₀ ∷ ts₀) (t ∷ ts) (demand.more o os) (more h hs) = more (tag_at t₀ t o h) (row_at ts₀ ts os hs)
+  row_at [] (t ∷ ts) _ b = elim b [ ]
+  row_at (t₀ ∷ ts₀) [] _ b = elim b [ ]
 
   -- a tag speaks exactly if it is called
   said : (t₀ : Tag) (found : List ℕ) (rs : List (List ℕ)) (cs : List Card) (b : Bool) → calls family w t₀.card ≡ b → rs ≡ messages cs
@@ -52,9 +54,13 @@ module _ (family : ℕ) (w : Walk) (send : Send) (sent : List ℕ) where
   row-replies (t₀ ∷ ts₀) (t ∷ ts) (more h hs) =
       rw h.after
       (said t₀ t.room (replies send sent ts) (callers family w ts₀) (calls family w t₀.card) refl (row-replies ts₀ ts hs))
+  row-replies [] (t ∷ ts) b = elim b [ ]
+  row-replies (t₀ ∷ ts₀) [] b = elim b [ ]
 
 -- a law for each tag is one for the row
 pub both_map : {P Q : Tag → Tag → Type 0} (ts₀ ts : List Tag) → AllObey ts₀ → ((t₀ t : Tag) → Obeys t₀ → P t₀ t → Q t₀ t) → Both P ts₀ ts
     → Both Q ts₀ ts
 both_map [] [] demand.none f none = none
 both_map (t₀ ∷ ts₀) (t ∷ ts) (demand.more o os) f (more p ps) = more (f t₀ t o p) (both_map ts₀ ts os f ps)
+both_map [] (t ∷ ts) _ f b = elim b [ ]
+both_map (t₀ ∷ ts₀) [] _ f b = elim b [ ]
