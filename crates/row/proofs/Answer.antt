@@ -6,8 +6,6 @@ use mathlib.Core.Bool.{Bool, true, false, cond}
 use mathlib.Core.Path.{◌≡◌, refl, ◌∙◌, ap}
 use lib.Dec.{eqb}
 use lib.IntN.{ℤ}
-use types.Run.{OneOf, miss}
-use denote.Enum.Declared.{tag_of}
 use Rattle.lent.specs.Lent.{over, placed}
 use Rattle.crc.specs.Check.{check_bytes, sealed}
 use Rattle.frames.specs.Field.{field_bytes, put_leaves, PutsField}
@@ -15,7 +13,6 @@ use Rattle.frames.specs.Frame.{seal_leaves, Seals}
 use Rattle.card.specs.declared.Card.{Card}
 use Rattle.card.specs.declared.Reply.{Reply}
 use Rattle.card.specs.declared.Reply.TheVariants as reply
-use Rattle.card.specs.contracts.Reply as R°
 use Rattle.walk.specs.declared.Walk.{Walk}
 use Rattle.walk.specs.declared.Kind.{Kind}
 use Rattle.walk.specs.declared.Kind.TheVariants as kinds
@@ -27,15 +24,15 @@ use Rattle.row.specs.Row.{crowded, air_with, air_kind, air_bytes, desk_after}
 use Rattle.row.specs.Steps.{no_answer, bytes_heard}
 
 -- a reply that is neither silence nor present, as the last arm of the match has it
-pub other_crowds : (air : Air) (c : Card) (r : Reply) → OneOf (1 ∷ 2 ∷ 4 ∷ 5 ∷ 6 ∷ []) (tag_of R°.the_type r) → crowded air ≡ air_with air c r
+pub other_crowds : (air : Air) (c : Card) (r : Reply) → (r ≡ reply.Silence → ⊥) → (r ≡ reply.Present → ⊥) → crowded air ≡ air_with air c r
 unfolding air_with
-other_crowds air c reply.Silence h = absurd (miss (1 ∷ 2 ∷ 4 ∷ 5 ∷ 6 ∷ []) 0 tt h)
-other_crowds air c (reply.Error code) h = refl
-other_crowds air c reply.Done h = refl
-other_crowds air c reply.Present h = absurd (miss (1 ∷ 2 ∷ 4 ∷ 5 ∷ 6 ∷ []) 3 tt h)
-other_crowds air c (reply.Blocks first n option) h = refl
-other_crowds air c (reply.Status first n) h = refl
-other_crowds air c reply.Information h = refl
+other_crowds air c reply.Silence s p = absurd (s refl)
+other_crowds air c (reply.Error code) s p = refl
+other_crowds air c reply.Done s p = refl
+other_crowds air c reply.Present s p = absurd (p refl)
+other_crowds air c (reply.Blocks first n option) s p = refl
+other_crowds air c (reply.Status first n) s p = refl
+other_crowds air c reply.Information s p = refl
 
 -- room for an answer, with the DSFID
 abbrev pub begun : ℕ → List ℕ

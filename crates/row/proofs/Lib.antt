@@ -5,9 +5,5 @@ mod RowPart
 mod Dealt
 mod SlotMade
 pub mod Played
-mod LocalRow
 pub mod Accepted
-mod Values
-mod Lending
-mod RowField
 pub mod Unique

@@ -1,5 +1,6 @@
 -- `row::play::deal` meets its contract. The loop's invariant: the first i cards are those of the first i UIDs.
 -- Assumes nothing.
+use borrow.Author.Rules.{rules}
 use native.Mathlib.Omega.{arith}
 use mathlib.Core.Path.{◌≡◌, refl, ◌∙◌}
 use lib.ListN.{length, length-set}
@@ -14,13 +15,13 @@ loop-i-init c = (omega arith, (refl, refl))
 pub loop-i-preserved : goal.loop-i-preserved
 loop-i-preserved c =
     let loop = c.loop-i in
-    let uids = c.args.t1 in
-    let all : length uids ≡ 100 = c.well_formed.0.1.0.1 in
+    let uids = c.args.uids in
+    let all : length uids ≡ 100 = search rules in
     (omega arith, (length-set loop.row loop.i _ ∙ loop.invariant.1.0, dealt_more uids loop.row loop.i (omega (arith, all)) (omega arith) loop.invariant.1.1 c.card_of.ensures))
 
 pub returns : goal.returns
 returns c =
     let loop = c.loop-i in
-    let uids = c.args.t1 in
-    let all : length uids ≡ 100 = c.well_formed.0.1.0.1 in
+    let uids = c.args.uids in
+    let all : length uids ≡ 100 = search rules in
     dealt_all uids loop.row loop.i (omega (arith, all)) (omega arith) loop.invariant.1.1

@@ -13,4 +13,4 @@ unfolding air_with
 returns-in-Present c = rw (c.in-Present.is, c.present.ensures)
 
 pub returns-in_default : goal.returns-in_default
-returns-in_default c = c.clash.ensures ∙ other_crowds _ _ _ c.in_default.in_default-own.keys3
+returns-in_default c = c.clash.ensures ∙ other_crowds _ _ _ c.in_default.not-Silence c.in_default.not-Present
