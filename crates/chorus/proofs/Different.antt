@@ -54,6 +54,7 @@ speaks_among family (t ∷ ts) a (there s) = go (answers family t.card) (speaks_
     go : (b : Bool) → is_among a (said_by family ts) ≡ true → is_among a (cond b (said t.card ∷ said_by family ts) (said_by family ts)) ≡ true
     go true later = rw later (or-true (alike a (said t.card)))
     go false later = later
+speaks_among family [] a h = elim h [ ]
 
 among_speaks : (family : ℕ) (tags : List Tag) (a : Said) → is_among a (said_by family tags) ≡ true → Speaks family a tags
 unfolding said_by is_among
