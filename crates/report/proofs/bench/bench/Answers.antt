@@ -10,14 +10,14 @@ pub returns-then-out-lt-MOST_PRINTED : goal.returns-then-out-lt-MOST_PRINTED
 returns-then-out-lt-MOST_PRINTED c = prints_short _ _ (omega arith)
 
 pub put_answer-n-requires : goal.put_answer-n-requires
-put_answer-n-requires c = (omega (arith, bad_of_read _ _ c.read.ensures), omega arith)
+put_answer-n-requires c = record { bad_bound = omega (arith, bad_of_read _ _ c.read.ensures); in_bounds = omega arith }
 
 pub overflow_cast-result : goal.overflow_cast-result
-overflow_cast-result c = omega (arith, c.put_answer-n.ensures.1)
+overflow_cast-result c = omega (arith, c.put_answer-n.ensures.upper_bound)
 
 pub returns : goal.returns
 returns c =
     let read = c.read in
     let put = c.put_answer-n in
-    rw (to_z_pos w64 put.result (omega (arith, put.ensures.1)))
-    (prints_all _ _ _ read.result put.result read.ensures (omega arith) put.ensures.0)
+    rw (to_z_pos w64 put.result (omega (arith, put.ensures.upper_bound)))
+    (prints_all _ _ _ read.result put.result read.ensures (omega arith) put.ensures.puts)

@@ -7,13 +7,16 @@ use Rattle.report.proofs.bench.put_answer.Goals as goal
 pub returns-then-bad-ne0 : goal.returns-then-bad-ne0
 returns-then-bad-ne0 c =
     let put = c.put_complaint.ensures in
-    (answer_complaint c.args.lines c.if-bad-ne0.true put.0, put.1)
+    record { puts = answer_complaint c.args.lines c.if-bad-ne0.true put.puts; upper_bound = put.upper_bound }
 
 pub put_report-requires : goal.put_report-requires
-put_report-requires c = (rw c.play.ensures (ended_accepted _), omega arith)
+put_report-requires c = record { walk_value = rw c.play.ensures (ended_accepted _); in_bounds = omega arith }
 
 pub returns : goal.returns
 returns c =
     let played = c.play in
     let put = c.put_report.ensures in
-    (answer_report c.args.lines played.result (omega arith) played.ensures put.0, put.1)
+    record {
+      puts = answer_report c.args.lines played.result (omega arith) played.ensures put.puts;
+      upper_bound = put.upper_bound;
+    }

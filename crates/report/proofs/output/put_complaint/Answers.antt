@@ -9,4 +9,7 @@ unfolding complaint
 returns c =
     let named = c.put_named-at.ensures in
     let line-end = c.put.ensures in
-    (puts_start (puts_then named.0 line-end (omega arith)), omega (arith, named.1, line-end.next))
+    record {
+      puts = puts_start (puts_then named.puts_at line-end (omega arith));
+      upper_bound = omega (arith, named.upper_bound, line-end.next);
+    }

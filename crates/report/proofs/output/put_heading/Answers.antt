@@ -13,8 +13,11 @@ pub put_named-at-requires : goal.put_named-at-requires
 unfolding levels
 put_named-at-requires c =
     let start = c in
-    let long : length start.args.walk.marks ≡ levels = search (rules, start.well-formed) in
-    (omega (arith, rounds_most (accepted_of_is_accepted _ start.requires.0) (omega (arith, long))), omega arith)
+    let long : length start.args.walk.marks ≡ levels = search (rules, start.well_formed) in
+    record {
+      n_bound = omega (arith, rounds_most (accepted_of_is_accepted _ start.requires.walk_value) (omega (arith, long)));
+      name_in_bounds = omega arith;
+    }
 
 pub returns : goal.returns
 returns c =
@@ -22,5 +25,9 @@ returns c =
     let verdict = c.put_verdict-at.ensures in
     let rounds = c.put_named-at.ensures in
     let cards = c.put_named.ensures in
-    let most : c.put_named.result ≤ 37 = omega (arith, verdict.1, rounds.1, cards.1) in
-    (puts_heading start.args.walk verdict.0 rounds.0 cards.0 (omega (arith, start.requires.1, most)), most)
+    let most : c.put_named.result ≤ 37 = omega (arith, verdict.upper_bound, rounds.upper_bound, cards.upper_bound) in
+    record {
+      puts_at =
+          puts_heading start.args.walk verdict.puts_at rounds.puts_at cards.puts_at (omega (arith, start.requires.in_bounds, most));
+      upper_bound = most;
+    }

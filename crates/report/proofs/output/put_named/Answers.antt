@@ -14,4 +14,4 @@ returns c =
     let name = c.put-next.ensures in
     let few = length_decimal 2 args.n (omega arith) in
     let puts = puts_then name c.put_number.ensures (omega (arith, name.next)) in
-    (puts, named_end args.name.now args.n (omega arith) puts)
+    record { puts_at = puts; upper_bound = named_end args.name.now args.n (omega arith) puts }

@@ -7,7 +7,7 @@ pub put_decimal-requires : goal.put_decimal-requires
 put_decimal-requires c = tt
 
 pub overflow_cast-result : goal.overflow_cast-result
-overflow_cast-result c = put-cast c.put_decimal.type-inv c.put_decimal.ensures (omega arith)
+overflow_cast-result c = put-cast c.put_decimal.type_inv c.put_decimal.ensures (omega arith)
 
 pub returns : goal.returns
-returns c = put-at c.put_decimal.type-inv c.put_decimal.ensures (omega arith)
+returns c = put-at c.put_decimal.type_inv c.put_decimal.ensures (omega arith)

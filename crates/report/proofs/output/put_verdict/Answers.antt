@@ -14,4 +14,4 @@ returns c =
     let name = c.put-next.ensures in
     let short = length_word c.args.ending in
     let puts = puts_then name c.put_word.ensures (omega (arith, name.next)) in
-    (puts, omega (arith, puts.next))
+    record { puts_at = puts; upper_bound = omega (arith, puts.next) }
