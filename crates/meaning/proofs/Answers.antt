@@ -43,6 +43,8 @@ row_answers : (w : Walk) (air : Air) (ts₀ ts : List Tag) → Both (Turned w) t
     → (row_air w air (cards ts)).answers ≡ answered air.answers (callers w.family w ts₀)
 unfolding row_air answered cards callers Turned stepped
 row_answers w air [] [] none = refl
+row_answers w air [] (t ∷ ts) h = elim h [ ]
+row_answers w air (t₀ ∷ ts₀) [] h = elim h [ ]
 row_answers w air (t₀ ∷ ts₀) (t ∷ ts) (more h hs) =
     row_answers w (air_with air (turn_of w t.card).card (turn_of w t.card).reply) ts₀ ts hs
     ∙ ap (λ (u : Turn). answered (air_with air u.card u.reply).answers (callers w.family w ts₀)) h

@@ -48,6 +48,8 @@ row_turned w ts₀ ts obey accepted level running before = go w.slot refl before
 pub row_left : (w : Walk) (ts₀ ts : List Tag) → Both (Turned w) ts₀ ts → row_after w (cards ts) ≡ cards_left w.family w ts₀
 unfolding row_after cards cards_left card_left Turned stepped in_step
 row_left w [] [] none = refl
+row_left w [] (t ∷ ts) h = elim h [ ]
+row_left w (t₀ ∷ ts₀) [] h = elim h [ ]
 row_left w (t₀ ∷ ts₀) (t ∷ ts) (more h hs) =
     ap₂ (λ (c : Card) (cs : List Card). c ∷ cs) (ap (λ (u : Turn). u.card) h) (row_left w ts₀ ts hs)
 
@@ -80,6 +82,8 @@ stepped_air w air c = go (calls w.family w c)
 row_air_lem : (w : Walk) (air : Air) (ts₀ ts : List Tag) → Both (Turned w) ts₀ ts → row_air w air (cards ts) ≡ air_of air (callers w.family w ts₀)
 unfolding row_air air_of cards callers Turned
 row_air_lem w air [] [] none = refl
+row_air_lem w air [] (t ∷ ts) h = elim h [ ]
+row_air_lem w air (t₀ ∷ ts₀) [] h = elim h [ ]
 row_air_lem w air (t₀ ∷ ts₀) (t ∷ ts) (more h hs) =
     ap (λ (u : Turn). row_air w (air_with air u.card u.reply) (cards ts)) h
     ∙ ap (λ (x : Air). row_air w x (cards ts)) (stepped_air w air t₀.card)
