@@ -9,9 +9,8 @@ fn print(rt: &HostRuntime, input: &[u8]) {
     let printed = report::bench::bench(input, &mut out);
     let most: &[u8] = &out;
     let count = io::count(printed as isize, most);
-    if let Err(error) = rt.write_all(&most[..count]) {
-        input::fail(rt, b"espenknoten-bench: standard output", error);
-    }
+    let written = rt.write_all(&most[..count]);
+    input::wrote(rt, b"espenknoten-bench: standard output", written);
 }
 
 // What is read, to the printed end.

@@ -9,9 +9,8 @@ fn draw(rt: &HostRuntime, input: &[u8]) {
     let pictured = picture::picture::picture(input, &mut out);
     let most: &[u8] = &out;
     let count = io::count(pictured as isize, most);
-    if let Err(error) = rt.write_all(&most[..count]) {
-        input::fail(rt, b"espenknoten-draw: standard output", error);
-    }
+    let written = rt.write_all(&most[..count]);
+    input::wrote(rt, b"espenknoten-draw: standard output", written);
 }
 
 // What is read, to the printed end.

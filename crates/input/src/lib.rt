@@ -1,7 +1,7 @@
 // What a program reads: standard input, or the file that its argument names. A read that fails is told, and is not the end of the input.
 #![tactic(auto)]
 
-ghost use Rattle.std.specs.Prelude.{cond, ◌≡◌, ◌↔◌, IfOk, IsSome};
+ghost use Rattle.std.specs.Prelude.{cond, ◌≡◌, ◌↔◌, IfOk, IsSome, is_ok};
 ghost use Rattle.io.specs.Counts.{IsPrefixLen};
 
 use std::env::Env;
@@ -23,8 +23,19 @@ pub struct Came {
 }
 
 // Tells on standard error why something under a name failed. What can't be told is let go.
-pub fn fail(rt: &HostRuntime, name: &[u8], error: Error) {
+fn fail(rt: &HostRuntime, name: &[u8], error: Error) {
     let _told = rt.stderr().write_all(name).is_ok() && eprintln!(rt; ": {error}").is_ok();
+}
+
+// Whether what was written under a name was written; a failure is told.
+pub fn wrote(rt: &HostRuntime, name: &[u8], outcome: std::io::Result<()>) -> bool
+    ensures { result ≡ is_ok outcome }
+{
+    let is_written = outcome.is_ok();
+    if let Err(error) = outcome {
+        fail(rt, name, error);
+    }
+    is_written
 }
 
 // What is read: standard input, or the file that the only argument names. Else nothing, and the reason and the usage are told.

@@ -184,13 +184,8 @@ fn put_blocks(size: usize, bytes: &[u8], text: &mut [u8], at: usize) -> usize {
 // Writes a text with a line feed after it. A write that fails is told.
 fn write(rt: &HostRuntime, text: &mut [u8], at: usize) -> bool {
     let n = up_to(put(b"\n", text, at), text);
-    match rt.write_all(&text[..n]) {
-        Ok(()) => true,
-        Err(error) => {
-            input::fail(rt, b"espenknoten-player: standard output", error);
-            false
-        }
-    }
+    let written = rt.write_all(&text[..n]);
+    input::wrote(rt, b"espenknoten-player: standard output", written)
 }
 
 // Ends what is told of an event with the record after it.

@@ -11,6 +11,7 @@ use prog.Memory.{Memory}
 use prog.Routine.{Routine}
 use types.Logic.{Logic}
 use contract.Monad.{Fun}
+use Rattle.std.specs.Prelude.{is_ok}
 use Rattle.crc.specs.Check.{check_of, is_sealed}
 use Rattle.frames.specs.Flags.{flags_of}
 use Rattle.frames.specs.Field.{PutsField, field_at, field_of}
@@ -57,6 +58,7 @@ use Rattle.tracks.specs.contracts.coder.code as tracks_code
 use Rattle.tracks.specs.contracts.decoder.decode as tracks_decode
 use Rattle.coil.specs.contracts.coder.code as coil_code
 use Rattle.coil.specs.contracts.decoder.decode as coil_decode
+use Rattle.input.specs.contracts.wrote as input_wrote
 use Rattle.theorems.specs.Contract.{Contract}
 use Rattle.theorems.proofs.Kept.{kept}
 
@@ -211,3 +213,9 @@ module _ {M : Type 1} {𝓤 : Ura M} (𝓛 : Logic 𝓤) (mem : Memory → SProp
   coil_decode_contract =
       kept 𝓛 coil_decode.ended _ _ _ refl (λ κs a. (tt, id⊢ 𝓤 _)) (λ κs a g r e. id⊢ 𝓤 _)
       (λ κs a r s x y p q. let u : _ = coil_decode_unique p q in (u.0, λ i. (tt, (u.1 i, tt))))
+
+  -- ---- input
+
+  input_wrote_contract : Contract 𝓛 input_wrote.ended (input_wrote.spec 𝓛 mem run) (input_wrote.clauses 𝓛 mem run)
+      (λ κs a r e. r ≡ is_ok a.1.1.0)
+  input_wrote_contract = kept 𝓛 input_wrote.ended _ _ _ refl (λ κs a. (tt, id⊢ 𝓤 _)) (λ κs a g r e. id⊢ 𝓤 _) (λ κs a r s x y p q. (p ∙ sym q, refl))

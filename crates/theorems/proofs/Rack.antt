@@ -34,7 +34,7 @@ use Rattle.walk.specs.contracts.Walk.mask as walk_mask
 use Rattle.walk.specs.contracts.Walk.is_accepted as walk_is_accepted
 use Rattle.reader.specs.contracts.Request.make as request_make
 use Rattle.reader.specs.contracts.Request.read as request_read
-use Rattle.row.specs.contracts.play.fresh as Row-fresh
+use Rattle.row.specs.contracts.play.fresh as row_fresh
 use Rattle.row.specs.contracts.play.deal as row_deal
 use Rattle.row.specs.contracts.play.hear as row_hear
 use Rattle.row.specs.contracts.play.slot as row_slot
@@ -105,9 +105,9 @@ module _ {M : Type 1} {𝓤 : Ura M} (𝓛 : Logic 𝓤) (mem : Memory → SProp
 
   -- ---- row
 
-  row_fresh_contract : Contract 𝓛 Row-fresh.ended (Row-fresh.spec 𝓛 mem run) (Row-fresh.clauses 𝓛 mem run)
+  row_fresh_contract : Contract 𝓛 row_fresh.ended (row_fresh.spec 𝓛 mem run) (row_fresh.clauses 𝓛 mem run)
       (λ κs a r e. r ≡ fresh_desk)
-  row_fresh_contract = kept 𝓛 Row-fresh.ended _ _ _ refl (λ κs a. (tt, id⊢ 𝓤 _)) (λ κs a g r e. id⊢ 𝓤 _) (λ κs a r s x y p q. (p ∙ sym q, refl))
+  row_fresh_contract = kept 𝓛 row_fresh.ended _ _ _ refl (λ κs a. (tt, id⊢ 𝓤 _)) (λ κs a g r e. id⊢ 𝓤 _) (λ κs a r s x y p q. (p ∙ sym q, refl))
 
   row_deal_contract : Contract 𝓛 row_deal.ended (row_deal.spec 𝓛 mem run) (row_deal.clauses 𝓛 mem run)
       (λ κs a r e. r ≡ cards_of a.0)
