@@ -11,7 +11,6 @@ use lib.Seq.{take-append_seam, drop-append-add, drop-drop}
 use Rattle.lent.specs.Lent.{over, placed, refused}
 use Rattle.lent.specs.Puts.{Puts}
 use Rattle.lines.specs.declared.Lines.{Lines}
-use Rattle.lines.specs.Input.{uids}
 use Rattle.lines.specs.Lines.{fresh_lines, read_from}
 use Rattle.lines.proofs.Reading.{reads_of_read}
 use Rattle.report.specs.Bench.{printed, most_printed, bench_answer, bench_leaves, Prints}

@@ -9,12 +9,6 @@ use Rattle.picture.proofs.Slots.{drawing_none, drawing_room, drawing_more, drawi
 use Rattle.picture.proofs.Moves.{Fit, fresh_fit}
 use Rattle.picture.proofs.drawing.draw.Goals as goal
 
-pub deal-row-requires : goal.deal-row-requires
-deal-row-requires c = tt
-
-pub fresh-desk-requires : goal.fresh-desk-requires
-fresh-desk-requires c = tt
-
 pub loop-row-init : goal.loop-row-init
 loop-row-init c =
     let args = c.args in
@@ -23,17 +17,14 @@ loop-row-init c =
     let most = dealt_most _ args.n c.fresh-desk.ensures deal.ensures in
     (refl, drawing_none _ _ _ _ (subst Fit (sym c.fresh-desk.ensures) fresh_fit) most (omega (arith, put.ensures.next)))
 
-pub goes_on-requires : goal.goes_on-requires
-goes_on-requires c = tt
-
-pub slot-next-requires : goal.slot-next-requires
-slot-next-requires c = tt
-
 pub put_slot-at-requires : goal.put_slot-at-requires
 put_slot-at-requires c =
     let put = c.put-at in
     let loop = c.loop-row in
-    (loop.invariant.1.fit.accepted, omega (arith, drawing_room loop.invariant.1, loop.invariant.1.room, put.ensures.next))
+    record {
+      walk_value = loop.invariant.1.fit.accepted;
+      at_in_bounds = omega (arith, drawing_room loop.invariant.1, loop.invariant.1.room, put.ensures.next);
+    }
 
 pub overflow_add-count : goal.overflow_add-count
 overflow_add-count c =
@@ -61,7 +52,10 @@ pub put_twins-requires : goal.put_twins-requires
 put_twins-requires c =
     let put = c.put-at in
     let loop = c.loop-row in
-    (loop.invariant.1.fit.accepted, omega (arith, drawing_room loop.invariant.1, loop.invariant.1.room, put.ensures.next))
+    record {
+      walk_value = loop.invariant.1.fit.accepted;
+      at_in_bounds = omega (arith, drawing_room loop.invariant.1, loop.invariant.1.room, put.ensures.next);
+    }
 
 pub returns : goal.returns
 unfolding heading

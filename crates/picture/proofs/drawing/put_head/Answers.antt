@@ -17,27 +17,28 @@ pub round-number-requires : goal.round-number-requires
 unfolding levels
 round-number-requires c =
     let start = c in
-    let long : length start.args.walk.marks ≡ levels = search (rules, start.well-formed) in
-    omega (arith, (within_accepted (accepted_of_is_accepted _ start.requires.0) (omega (arith, long))).rounds)
+    let long : length start.args.walk.marks ≡ levels = search (rules, start.well_formed) in
+    omega (arith, (within_accepted (accepted_of_is_accepted _ start.requires.walk_value) (omega (arith, long))).rounds)
 
 pub put_tail-next-requires : goal.put_tail-next-requires
 unfolding levels
 put_tail-next-requires c =
     let start = c in
-    let long : length start.args.walk.marks ≡ levels = search (rules, start.well-formed) in (
-      omega (arith, (within_accepted (accepted_of_is_accepted _ start.requires.0) (omega (arith, long))).level),
-      omega (arith, c.put-place.ensures.next, start.requires.1),
-    )
+    let long : length start.args.walk.marks ≡ levels = search (rules, start.well_formed) in
+    record {
+      level_bound = omega (arith, (within_accepted (accepted_of_is_accepted _ start.requires.walk_value) (omega (arith, long))).level);
+      at_in_bounds = omega (arith, c.put-place.ensures.next, start.requires.at_in_bounds);
+    }
 
 pub put-requires : goal.put-requires
 unfolding levels
 put-requires c =
     let start = c in
     let walk = start.args.walk in
-    let long : length walk.marks ≡ levels = search (rules, start.well-formed) in
-    let level = (within_accepted (accepted_of_is_accepted _ start.requires.0) (omega (arith, long))).level in
+    let long : length walk.marks ≡ levels = search (rules, start.well_formed) in
+    let level = (within_accepted (accepted_of_is_accepted _ start.requires.walk_value) (omega (arith, long))).level in
     let digits = length_tail walk.level c.mask.result (omega (arith, level)) in
-    omega (arith, digits, c.put_tail-next.ensures.next, c.put-place.ensures.next, start.requires.1)
+    omega (arith, digits, c.put_tail-next.ensures.next, c.put-place.ensures.next, start.requires.at_in_bounds)
 
 pub returns : goal.returns
 unfolding levels
@@ -51,6 +52,6 @@ returns c =
     let digits = length_tail walk.level mask.result
     (let good = c.well_formed in
     let long : length walk.marks ≡ levels = search (rules, good) in
-    omega (arith, (within_accepted (accepted_of_is_accepted _ pre.0) (omega (arith, long))).level)) in
+    omega (arith, (within_accepted (accepted_of_is_accepted _ pre.walk_value) (omega (arith, long))).level)) in
     head_puts walk c.if-walk-ne0.false c.round-number.ensures mask.ensures number tail space
-    (omega (arith, number.next, tail.next, space.next, pre.1))
+    (omega (arith, number.next, tail.next, space.next, pre.at_in_bounds))

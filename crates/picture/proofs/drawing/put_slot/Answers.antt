@@ -13,8 +13,8 @@ pub put_sign-requires : goal.put_sign-requires
 unfolding levels
 put_sign-requires c =
     let start = c in
-    let long : length start.args.walk.marks ≡ levels = search (rules, start.well-formed) in
-    let few = head_most start.args.walk (within_accepted (accepted_of_is_accepted _ start.requires.0) (omega (arith, long))) in
+    let long : length start.args.walk.marks ≡ levels = search (rules, start.well_formed) in
+    let few = head_most start.args.walk (within_accepted (accepted_of_is_accepted _ start.requires.walk_value) (omega (arith, long))) in
     let put-head = c.put_head-place in
     omega (arith, put-head.ensures.next, few)
 
@@ -22,8 +22,8 @@ pub returns : goal.returns
 unfolding levels
 returns c =
     let start = c in
-    let long : length start.args.walk.marks ≡ levels = search (rules, start.well-formed) in
-    let few = head_most start.args.walk (within_accepted (accepted_of_is_accepted _ start.requires.0) (omega (arith, long))) in
+    let long : length start.args.walk.marks ≡ levels = search (rules, start.well_formed) in
+    let few = head_most start.args.walk (within_accepted (accepted_of_is_accepted _ start.requires.walk_value) (omega (arith, long))) in
     let put-head = c.put_head-place in
     let sign = c.sign in
     let ends-line = c.ends_line in

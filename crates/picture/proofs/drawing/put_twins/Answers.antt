@@ -16,16 +16,16 @@ pub overflow_add-uid : goal.overflow_add-uid
 unfolding levels twins_uid
 overflow_add-uid c =
     let start = c in
-    let long : length start.args.desk.walk.marks ≡ levels = search (rules, start.well-formed) in
-    let above = digits_above start.args.desk.walk start.requires.0 (omega (arith, long)) in
+    let long : length start.args.desk.walk.marks ≡ levels = search (rules, start.well_formed) in
+    let above = digits_above start.args.desk.walk start.requires.walk_value (omega (arith, long)) in
     rw above.shifted (omega (arith, above.fits))
 
 pub overflow_add-uid-2 : goal.overflow_add-uid-2
 unfolding levels twins_uid
 overflow_add-uid-2 c =
     let start = c in
-    let long : length start.args.desk.walk.marks ≡ levels = search (rules, start.well-formed) in
-    let above = digits_above start.args.desk.walk start.requires.0 (omega (arith, long)) in
+    let long : length start.args.desk.walk.marks ≡ levels = search (rules, start.well_formed) in
+    let above = digits_above start.args.desk.walk start.requires.walk_value (omega (arith, long)) in
     rw (above.shifted, c.mask.ensures) (omega (arith, above.fits))
 
 pub put-requires : goal.put-requires
@@ -35,11 +35,11 @@ pub returns : goal.returns
 unfolding levels twins_uid
 returns c =
     let start = c in
-    let long : length start.args.desk.walk.marks ≡ levels = search (rules, start.well-formed) in
-    let above = digits_above start.args.desk.walk start.requires.0 (omega (arith, long)) in
+    let long : length start.args.desk.walk.marks ≡ levels = search (rules, start.well_formed) in
+    let above = digits_above start.args.desk.walk start.requires.walk_value (omega (arith, long)) in
     let put = c.put-place.ensures in
     let mask = c.mask in
     let digits = c.put_digits-next.ensures in
     let line-end = c.put.ensures in
     let places = rw length_hex_digits at digits.next in
-    twins_puts _ c.if-walk-ne2.false (rw (above.shifted, mask.ensures) refl) put digits line-end (omega (arith, put.next, line-end.next, start.requires.1))
+    twins_puts _ c.if-walk-ne2.false (rw (above.shifted, mask.ensures) refl) put digits line-end (omega (arith, put.next, line-end.next, start.requires.at_in_bounds))

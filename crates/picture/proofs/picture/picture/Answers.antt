@@ -16,7 +16,7 @@ returns-then-lines-ne0 c =
     let read = c.read-lines in
     let if2 = c.if-lines-ne0 in
     let bench = c.bench in
-    rw (to_z-of_z w64 bench.result (sfits_of bench.type-inv))
+    rw (to_z-of_z w64 bench.result (sfits_of bench.type_inv))
     (pictures_wrong _ _ _ read.result _ read.ensures if2.true (omega arith) bench.ensures)
 
 pub put_printed-requires : goal.put_printed-requires
@@ -24,12 +24,12 @@ put_printed-requires c =
     let read = c.read-lines in
     let draw = c.draw-at in
     let most = drawn_most (take read.result.count read.result.uids) in
-    (omega (arith, draw.ensures.count, most), omega (arith, draw.ensures.count, most))
+    record { at_bound = omega (arith, draw.ensures.count, most); at_in_bounds = omega (arith, draw.ensures.count, most) }
 
 pub returns : goal.returns
 returns c =
     let read = c.read-lines in
     let draw = c.draw-at in
     let put-printed = c.put_printed in
-    rw (to_z-of_z w64 put-printed.result (sfits_of put-printed.type-inv))
-    (pictures_drawn _ _ _ _ read.result draw.result _ read.ensures (omega arith) (omega arith) draw.ensures put-printed.ensures.0 put-printed.ensures.1)
+    rw (to_z-of_z w64 put-printed.result (sfits_of put-printed.type_inv))
+    (pictures_drawn _ _ _ _ read.result draw.result _ read.ensures (omega arith) (omega arith) draw.ensures put-printed.ensures.value put-printed.ensures.out_after)

@@ -7,13 +7,11 @@ pub overflow_add-result : goal.overflow_add-result
 overflow_add-result c =
     let args = c.args in
     let bench = c.bench-count in
-    let out = c.out-1 in
-    (printed_at args.at _ _ (omega arith) (omega arith) bench.ensures out.given.0).fits
+    (printed_at args.at _ _ (omega arith) (omega arith) bench.ensures bench.auto.out).fits
 
 pub returns : goal.returns
 returns c =
     let args = c.args in
     let bench = c.bench-count in
-    let out = c.out-1 in
-    let p = printed_at args.at _ _ (omega arith) (omega arith) bench.ensures out.given.0 in
-    (p.count, p.leaves)
+    let p = printed_at args.at _ _ (omega arith) (omega arith) bench.ensures bench.auto.out in
+    record { value = p.count; out_after = p.leaves }

@@ -3,9 +3,6 @@ use native.Mathlib.Omega.{arith}
 use Rattle.digits.proofs.Put.{put-cast, put-at}
 use Rattle.report.proofs.output.put.Goals as goal
 
-pub put_bytes-requires : goal.put_bytes-requires
-put_bytes-requires c = tt
-
 pub overflow_cast-result : goal.overflow_cast-result
 overflow_cast-result c = put-cast c.put_bytes.type_inv c.put_bytes.ensures (omega arith)
 

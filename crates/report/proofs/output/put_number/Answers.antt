@@ -3,9 +3,6 @@ use native.Mathlib.Omega.{arith}
 use Rattle.digits.proofs.Put.{put-cast, put-at}
 use Rattle.report.proofs.output.put_number.Goals as goal
 
-pub put_decimal-requires : goal.put_decimal-requires
-put_decimal-requires c = tt
-
 pub overflow_cast-result : goal.overflow_cast-result
 overflow_cast-result c = put-cast c.put_decimal.type_inv c.put_decimal.ensures (omega arith)
 

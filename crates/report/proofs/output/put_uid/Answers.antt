@@ -4,9 +4,6 @@ use Rattle.digits.proofs.Digits.{length_hex_digits}
 use Rattle.digits.proofs.Put.{put-cast, put-at}
 use Rattle.report.proofs.output.put_uid.Goals as goal
 
-pub put_digits-requires : goal.put_digits-requires
-put_digits-requires c = tt
-
 pub overflow_cast-result : goal.overflow_cast-result
 overflow_cast-result c = put-cast c.put_digits.type_inv c.put_digits.ensures (rw length_hex_digits (omega arith))
 

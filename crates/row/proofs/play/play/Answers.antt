@@ -3,9 +3,6 @@ use mathlib.Core.Path.{sym}
 use Rattle.row.proofs.AtMost.{at_most_below}
 use Rattle.row.proofs.play.play.Goals as goal
 
-pub at_most-requires : goal.at_most-requires
-at_most-requires c = tt
-
 pub play_over-requires : goal.play_over-requires
 play_over-requires c = at_most_below 100 _ _ c.at_most.ensures
 
