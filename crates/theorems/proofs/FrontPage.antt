@@ -115,7 +115,7 @@ use Rattle.racks.specs.Rack.{Desk, Happening, own_events, played_on, started_on,
 use Rattle.racks.specs.Replies.{RackWalk, fresh_on, happens_all, HoldsOn, AnyRepliesOn, TwoRacks, starts, turned, Move, turned_all, BothGoOn, BothGoOnAlways, BothGoOnLater}
 use Rattle.racks.specs.Examples.{MayEndFull, OneRowEach, SharedNumbers}
 use Rattle.racks.proofs.Demand.{demand_on_a_rack, any_uids_on_a_rack}
-use Rattle.racks.proofs.OneCall.{full_exactly, TheRowAlways, start_frees}
+use Rattle.racks.proofs.OneCall.{full_exactly, the_row, start_frees}
 use Rattle.racks.proofs.Other.{other_keeps, refused_as_before, served_after_start, free_rows_alone}
 use Rattle.racks.proofs.Replies.{any_replies_on, both_go_on, both_go_on_later}
 use Rattle.racks.proofs.Examples.{may_end_full, one_row_each, shared_numbers}
