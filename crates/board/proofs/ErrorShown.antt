@@ -9,7 +9,7 @@ use Rattle.reader.specs.declared.Reading.{Reading}
 use Rattle.reader.specs.declared.Reading.TheVariants.{Nothing, Error, Done, Blocks, Locks, System}
 use Rattle.reader.specs.declared.Told.{Told}
 use Rattle.reader.specs.Reading.{reading, Reads, shows_data}
-use Rattle.reader.proofs.Errors.{error-shows-nothing}
+use Rattle.reader.proofs.Errors.{error_shows_nothing}
 use Rattle.board.specs.declared.answers.Shown.{Shown}
 use Rattle.board.specs.Answers.{no_information, information_of, ReadsByValue}
 
@@ -29,5 +29,5 @@ error_shows_c_nothing q answer blocks locks r blocks' locks' p none =
     let o = reading q answer blocks locks in
     let told : Told = record { number = o.number; reading = o.reading } in
     let reads : Reads o told blocks' locks' = record { number = refl; reading = refl; blocks_left = p.blocks_left; locks_left = p.locks_left } in
-    let left = (error-shows-nothing q answer blocks locks told blocks' locks' reads).nothing_shown none in
+    let left = (error_shows_nothing q answer blocks locks told blocks' locks' reads).nothing_shown none in
     (p.information ∙ no_information_lem o.reading none, left.0, left.1)

@@ -11,7 +11,7 @@ use Rattle.card.specs.declared.Card.{Card}
 use Rattle.card.specs.Record.{is_accepted}
 use Rattle.card.proofs.Accepted.{accepted_changes}
 use Rattle.record.specs.Record.{card_read}
-use Rattle.record.proofs.RoundTrip.{read-of-record, length-record}
+use Rattle.record.proofs.RoundTrip.{read_of_record, length_record}
 use Rattle.record.proofs.Numbers.{Numbers, numbers_read, numbers_changes, accepted_fits}
 use Rattle.record.proofs.Written.{record_bytes}
 use Rattle.play.specs.Refusal.{refusal, Accepted}
@@ -19,7 +19,7 @@ use Rattle.play.specs.Fits.{Kept}
 use Rattle.play.specs.Events.{Outcome, unserved, frame_event, mark_event, off_event}
 use Rattle.play.proofs.Refusals.{passes_of}
 use Rattle.play.proofs.Outcomes.{frame_refused, mark_refused, off_refused}
-use Rattle.play.proofs.EventKeeps.{frame_number, mark_number, off_number, frame-event-keeps, mark-event-keeps, off-event-keeps, frame_kept, mark_kept, off_kept}
+use Rattle.play.proofs.EventKeeps.{frame_number, mark_number, off_number, frame_event_keeps, mark_event_keeps, off_event_keeps, frame_kept, mark_kept, off_kept}
 use Rattle.board.specs.Calls.{settled, frame_call, mark_call, off_call}
 use Rattle.board.proofs.CardCalls.{frame_call_lem, mark_call_lem, off_call_lem, served_length, left_by}
 
@@ -41,14 +41,14 @@ module _ (bytes memory locks found : List ℕ) (o : Outcome) where
     card-back : card_read (settled o bytes).bytes ≡ o.card
     card-back =
         left_by bytes memory locks found o f.number f.refuses (λ (left : List ℕ) (c : Card). card_read left ≡ c)
-        (λ a. read-of-record o.card bytes (served_length bytes memory locks found a)
+        (λ a. read_of_record o.card bytes (served_length bytes memory locks found a)
         (accepted_fits o.card (next a) (rw f.kept.uid (numbers_read bytes bs).uid)))
         refl
 
     left-bytes : Numbers o.card → Bytes (settled o bytes).bytes × (length (settled o bytes).bytes ≡ length bytes)
     left-bytes n =
         left_by bytes memory locks found o f.number f.refuses (λ (left : List ℕ) (c : Card). Bytes left × (length left ≡ length bytes))
-        (λ a. let is = served_length bytes memory locks found a in (record_bytes o.card bytes (next a) n bs, length-record o.card bytes is ∙ sym is))
+        (λ a. let is = served_length bytes memory locks found a in (record_bytes o.card bytes (next a) n bs, length_record o.card bytes is ∙ sym is))
         (bs, refl)
 
 -- ---- the outcomes of the three events
@@ -58,7 +58,7 @@ frame_follows bytes frame memory locks found =
     record {
       number = frame_number (card_read bytes) frame memory locks found;
       refuses = frame_refused (card_read bytes) frame memory locks found;
-      accepted = frame-event-keeps (card_read bytes) frame memory locks found (accepted_changes frame);
+      accepted = frame_event_keeps (card_read bytes) frame memory locks found (accepted_changes frame);
       kept = frame_kept (card_read bytes) frame memory locks found;
     }
 
@@ -67,7 +67,7 @@ mark_follows bytes memory locks found =
     record {
       number = mark_number (card_read bytes) memory locks found;
       refuses = mark_refused (card_read bytes) memory locks found;
-      accepted = mark-event-keeps (card_read bytes) memory locks found (accepted_changes []);
+      accepted = mark_event_keeps (card_read bytes) memory locks found (accepted_changes []);
       kept = mark_kept (card_read bytes) memory locks found;
     }
 
@@ -76,7 +76,7 @@ off_follows bytes memory locks found =
     record {
       number = off_number (card_read bytes) memory locks found;
       refuses = off_refused (card_read bytes) memory locks found;
-      accepted = off-event-keeps (card_read bytes) memory locks found (accepted_changes []);
+      accepted = off_event_keeps (card_read bytes) memory locks found (accepted_changes []);
       kept = off_kept (card_read bytes) memory locks found;
     }
 
@@ -102,17 +102,17 @@ off_reads_back bytes memory locks found bs =
 pub frame_leaves_bytes : (bytes frame memory locks found : List ℕ) → Bytes bytes → Bytes frame
     → Bytes (frame_call bytes frame memory locks found).bytes × (length (frame_call bytes frame memory locks found).bytes ≡ length bytes)
 frame_leaves_bytes bytes frame memory locks found bs fs =
-    let numbers = frame-event-keeps (card_read bytes) frame memory locks found (numbers_changes frame fs) (numbers_read bytes bs) in
+    let numbers = frame_event_keeps (card_read bytes) frame memory locks found (numbers_changes frame fs) (numbers_read bytes bs) in
     rw (frame_call_lem bytes frame memory locks found) (left-bytes bytes memory locks found _ (frame_follows bytes frame memory locks found) bs numbers)
 
 pub mark_leaves_bytes : (bytes memory locks found : List ℕ) → Bytes bytes
     → Bytes (mark_call bytes memory locks found).bytes × (length (mark_call bytes memory locks found).bytes ≡ length bytes)
 mark_leaves_bytes bytes memory locks found bs =
-    let numbers = mark-event-keeps (card_read bytes) memory locks found (numbers_changes [] bytes_none) (numbers_read bytes bs) in
+    let numbers = mark_event_keeps (card_read bytes) memory locks found (numbers_changes [] bytes_none) (numbers_read bytes bs) in
     rw (mark_call_lem bytes memory locks found) (left-bytes bytes memory locks found _ (mark_follows bytes memory locks found) bs numbers)
 
 pub off_leaves_bytes : (bytes memory locks found : List ℕ) → Bytes bytes
     → Bytes (off_call bytes memory locks found).bytes × (length (off_call bytes memory locks found).bytes ≡ length bytes)
 off_leaves_bytes bytes memory locks found bs =
-    let numbers = off-event-keeps (card_read bytes) memory locks found (numbers_changes [] bytes_none) (numbers_read bytes bs) in
+    let numbers = off_event_keeps (card_read bytes) memory locks found (numbers_changes [] bytes_none) (numbers_read bytes bs) in
     rw (off_call_lem bytes memory locks found) (left-bytes bytes memory locks found _ (off_follows bytes memory locks found) bs numbers)

@@ -21,7 +21,7 @@ use Rattle.play.specs.Answer.{reply_bytes}
 use Rattle.play.specs.Events.{Outcome, replied, unserved, event, carried_out, frame_event, mark_event, off_event}
 use Rattle.play.proofs.Room.{room_of, reply_most, silence_length}
 use Rattle.play.proofs.ReadyFor.{deed_ready, mark_ready}
-use Rattle.play.proofs.EventWays.{told-silence}
+use Rattle.play.proofs.EventWays.{told_silence}
 use Rattle.play.proofs.Lengths.{reply_told, deed_told}
 
 -- an event, where what is served fits
@@ -61,7 +61,7 @@ off_fits : (c : Card) (memory locks found : List ℕ) → (off_event c memory lo
 unfolding off_event replied
 off_fits c memory locks found =
     event_told c memory locks found (replied (powered_off c) memory locks Silence found) (λ e.
-    omega (arith, told-silence (reply_bytes (powered_off c) memory locks Silence) found (silence_length (powered_off c) memory locks)))
+    omega (arith, told_silence (reply_bytes (powered_off c) memory locks Silence) found (silence_length (powered_off c) memory locks)))
 
 -- the same of a length that is told
 

@@ -20,13 +20,13 @@ use Rattle.board.specs.Calls.{back_of, bytes_after, settled, called, frame_call,
 use Rattle.board.specs.Steps.{Settles}
 
 module _ (s : Served) (found : List ℕ) where
-  pub settles-refused : {r : ℤ} → (s.number ≡ 0 → ⊥) → r ≡ refused s.number → Settles s found r found
+  pub settles_refused : {r : ℤ} → (s.number ≡ 0 → ⊥) → r ≡ refused s.number → Settles s found r found
   unfolding back_of
-  settles-refused h e = record { back = rw (ne_eqb s.number 0 h) e; bytes_left = rw (ne_eqb s.number 0 h) }
+  settles_refused h e = record { back = rw (ne_eqb s.number 0 h) e; bytes_left = rw (ne_eqb s.number 0 h) }
 
-  pub settles-served : {left : List ℕ} → s.number ≡ 0 → left ≡ write_leaves s.card found → Settles s found (pos s.length) left
+  pub settles_served : {left : List ℕ} → s.number ≡ 0 → left ≡ write_leaves s.card found → Settles s found (pos s.length) left
   unfolding back_of
-  settles-served h e = record { back = rw (eq-eqb s.number 0 h); bytes_left = rw (eq-eqb s.number 0 h) e }
+  settles_served h e = record { back = rw (eq-eqb s.number 0 h); bytes_left = rw (eq-eqb s.number 0 h) e }
 
 -- no bytes read as a card of no blocks
 pub no_card_refused : (memory locks found : List ℕ) (o : Outcome) → event (card_of []) memory locks found o ≡ unserved (card_of []) memory locks found 1
@@ -34,10 +34,10 @@ unfolding event refusal is_accepted shape_fits card_of field_at field_of
 no_card_refused memory locks found o = refl
 
 module _ (bytes memory locks found : List ℕ) (o : Card → Outcome) (refuses : o (card_of []) ≡ unserved (card_of []) memory locks found 1) where
-  gives-settled : {s : Served} {r : ℤ} {left m l a : List ℕ} → Leaves (o (card_read bytes)) s m l a → Settles s bytes r left
+  gives_settled : {s : Served} {r : ℤ} {left m l a : List ℕ} → Leaves (o (card_read bytes)) s m l a → Settles s bytes r left
       → Gives (called bytes memory locks found (o (card_of bytes))) r left m l a
   unfolding called card_read write_leaves settled back_of bytes_after unserved
-  gives-settled {s} {r} {left} {m} {l} {a} p q = go (eqb (length bytes) record_length) p q.back q.bytes_left
+  gives_settled {s} {r} {left} {m} {l} {a} p q = go (eqb (length bytes) record_length) p q.back q.bytes_left
     where
       go : (b : Bool) → Leaves (o (cond b (card_of bytes) (card_of []))) s m l a → r ≡ back_of s.number s.length
           → left ≡ cond (eqb s.number 0) (cond b (record_of s.card bytes) bytes) bytes
@@ -60,17 +60,17 @@ module _ (bytes memory locks found : List ℕ) (o : Card → Outcome) (refuses :
           }
 
 module _ (bytes memory locks found : List ℕ) {s : Served} {r : ℤ} {left m l a : List ℕ} where
-  pub gives-frame : (frame : List ℕ) → Leaves (frame_event (card_read bytes) frame memory locks found) s m l a → Settles s bytes r left
+  pub gives_frame : (frame : List ℕ) → Leaves (frame_event (card_read bytes) frame memory locks found) s m l a → Settles s bytes r left
       → Gives (frame_call bytes frame memory locks found) r left m l a
   unfolding frame_call frame_event
-  gives-frame frame = gives-settled bytes memory locks found (λ (c : Card). frame_event c frame memory locks found) (no_card_refused memory locks found _)
+  gives_frame frame = gives_settled bytes memory locks found (λ (c : Card). frame_event c frame memory locks found) (no_card_refused memory locks found _)
 
-  pub gives-mark : Leaves (mark_event (card_read bytes) memory locks found) s m l a → Settles s bytes r left
+  pub gives_mark : Leaves (mark_event (card_read bytes) memory locks found) s m l a → Settles s bytes r left
       → Gives (mark_call bytes memory locks found) r left m l a
   unfolding mark_call mark_event
-  gives-mark = gives-settled bytes memory locks found (λ (c : Card). mark_event c memory locks found) (no_card_refused memory locks found _)
+  gives_mark = gives_settled bytes memory locks found (λ (c : Card). mark_event c memory locks found) (no_card_refused memory locks found _)
 
-  pub gives-off : Leaves (off_event (card_read bytes) memory locks found) s m l a → Settles s bytes r left
+  pub gives_off : Leaves (off_event (card_read bytes) memory locks found) s m l a → Settles s bytes r left
       → Gives (off_call bytes memory locks found) r left m l a
   unfolding off_call off_event
-  gives-off = gives-settled bytes memory locks found (λ (c : Card). off_event c memory locks found) (no_card_refused memory locks found _)
+  gives_off = gives_settled bytes memory locks found (λ (c : Card). off_event c memory locks found) (no_card_refused memory locks found _)

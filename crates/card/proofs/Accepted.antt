@@ -11,7 +11,7 @@ use Rattle.card.specs.declared.Sequence.{Sequence}
 use Rattle.card.specs.declared.Held.{Held}
 use Rattle.card.specs.Record.{shape_fits, sequence_fits, held_fits, is_accepted, remade, in_mode, in_sequence, holding, with_afi, with_dsfid, powered_off}
 use Rattle.card.specs.Mark.{marked}
-use Rattle.card.proofs.Changes.{Changes, off-keeps, marked-keeps}
+use Rattle.card.proofs.Changes.{Changes, off_keeps, marked_keeps}
 
 pub record Tests (c : Card) : Type 0 where
   pub shape : shape_fits c.blocks c.size ≡ true
@@ -70,7 +70,7 @@ accepted_changes frame =
     }
 
 pub marked_accepted : (c : Card) → IsAccepted c → IsAccepted (marked c).card
-marked_accepted c a = marked-keeps (accepted_changes []) c a (tests_of c a).sequence
+marked_accepted c a = marked_keeps (accepted_changes []) c a (tests_of c a).sequence
 
 pub off_accepted : (c : Card) → IsAccepted c → IsAccepted (powered_off c)
-off_accepted c a = off-keeps (accepted_changes []) c a
+off_accepted c a = off_keeps (accepted_changes []) c a

@@ -36,19 +36,19 @@ pub record Changes (Q : Card → Type 0) (frame : List ℕ) : Type 0 where
   pub locks_dsfid : (c : Card) → Q c → Q (with_dsfid c.dsfid true c)
 
 module _ {Q : Card → Type 0} {frame : List ℕ} (change : Changes Q frame) where
-  by-test : (b : Bool) (x y : Turn) → (b ≡ true → Q x.card) → (b ≡ false → Q y.card) → Q (cond b x y).card
-  by-test true x y p q = p refl
-  by-test false x y p q = q refl
+  by_test : (b : Bool) (x y : Turn) → (b ≡ true → Q x.card) → (b ≡ false → Q y.card) → Q (cond b x y).card
+  by_test true x y p q = p refl
+  by_test false x y p q = q refl
 
-  pub cleared-keeps : (c : Card) → Q c → Q (cleared c)
+  pub cleared_keeps : (c : Card) → Q c → Q (cleared c)
   unfolding cleared in_sequence holding remade sequence_fits held_fits
-  cleared-keeps c q = change.holds (in_sequence Idle c) (change.sequences c q Idle refl) Free refl
+  cleared_keeps c q = change.holds (in_sequence Idle c) (change.sequences c q Idle refl) Free refl
 
   -- ---- power off
 
-  pub off-keeps : (c : Card) → Q c → Q (powered_off c)
+  pub off_keeps : (c : Card) → Q c → Q (powered_off c)
   unfolding powered_off
-  off-keeps c q = change.modes (cleared c) (cleared-keeps c q) Ready
+  off_keeps c q = change.modes (cleared c) (cleared_keeps c q) Ready
 
   -- ---- a slot mark: a sequence that fits moves to one that fits
 
@@ -62,40 +62,40 @@ module _ {Q : Card → Type 0} {frame : List ℕ} (change : Changes Q frame) whe
   unfolding moved sequence_fits
   moved_keeps c q Idle e = q
   moved_keeps c q (Running slot n mask) e =
-      by-test (ltb slot 15) _ _ (λ l. change.sequences c q (Running (slot + 1) n mask) (next_fits slot n mask l e)) (λ l. change.sequences c q Idle refl)
+      by_test (ltb slot 15) _ _ (λ l. change.sequences c q (Running (slot + 1) n mask) (next_fits slot n mask l e)) (λ l. change.sequences c q Idle refl)
 
-  released-keeps : (c : Card) → Q c → sequence_fits c.sequence ≡ true → (h : Held) → Q (released c h).card
+  released_keeps : (c : Card) → Q c → sequence_fits c.sequence ≡ true → (h : Held) → Q (released c h).card
   unfolding released held_fits
-  released-keeps c q e Free = moved_keeps c q c.sequence e
-  released-keeps c q e Success = change.holds c q Free refl
-  released-keeps c q e (Code code) = change.holds c q Free refl
+  released_keeps c q e Free = moved_keeps c q c.sequence e
+  released_keeps c q e Success = change.holds c q Free refl
+  released_keeps c q e (Code code) = change.holds c q Free refl
 
-  pub marked-keeps : (c : Card) → Q c → sequence_fits c.sequence ≡ true → Q (marked c).card
+  pub marked_keeps : (c : Card) → Q c → sequence_fits c.sequence ≡ true → Q (marked c).card
   unfolding marked
-  marked-keeps c q e = released-keeps c q e c.held
+  marked_keeps c q e = released_keeps c q e c.held
 
   -- ---- an inventory request: the sequence that it starts fits
 
-  limit-of : (c : Card) (f : Flags) (n : ℕ) → f.b6 ≡ false → is_inventory c f frame n ≡ true → leb n 60 ≡ true
+  limit_of : (c : Card) (f : Flags) (n : ℕ) → f.b6 ≡ false → is_inventory c f frame n ≡ true → leb n 60 ≡ true
   unfolding is_inventory mask_limit
-  limit-of c f n b e =
+  limit_of c f n b e =
       let option = (and-eq-true_iff (not f.b7) _).0 e in
       let mode = (and-eq-true_iff (not (is_quiet c.mode)) _).0 option.1 in
       let command = (and-eq-true_iff (eqb (get_or frame 1 0) 0x01) _).0 mode.1 in
       rw b at ((and-eq-true_iff (leb n (cond f.b6 64 60)) _).0 command.1).0
 
-  started-fits : (f : Flags) (n : ℕ) → leb n 60 ≡ true → sequence_fits (Running 0 n (mask_of f frame n)) ≡ true
+  started_fits : (f : Flags) (n : ℕ) → leb n 60 ≡ true → sequence_fits (Running 0 n (mask_of f frame n)) ≡ true
   unfolding sequence_fits mask_of
-  started-fits f n e =
+  started_fits f n e =
       let field : ℕ = field_at frame (length_place f + 1) (mask_bytes n) in
       rw (e, lt-ltb (field % 2 ^ n) (2 ^ n) (mod-lt field (pow_pos n)))
 
-  pub inventoried-keeps : (c : Card) → Q c → (f : Flags) → Q (inventoried c f frame).card
+  pub inventoried_keeps : (c : Card) → Q c → (f : Flags) → Q (inventoried c f frame).card
   unfolding inventoried joins
-  inventoried-keeps c q f =
+  inventoried_keeps c q f =
       let n : ℕ = get_or frame (length_place f) 0 in
-      by-test (is_inventory c f frame n && takes_part c f frame) _ _
-      (λ e. by-test f.b6 _ _ (λ b. q)
+      by_test (is_inventory c f frame n && takes_part c f frame) _ _
+      (λ e. by_test f.b6 _ _ (λ b. q)
       (λ b. change.sequences c q (Running 0 n (mask_of f frame n))
-      (started-fits f n (limit-of c f n b ((and-eq-true_iff (is_inventory c f frame n) (takes_part c f frame)).0 e).0))))
+      (started_fits f n (limit_of c f n b ((and-eq-true_iff (is_inventory c f frame n) (takes_part c f frame)).0 e).0))))
       (λ e. q)

@@ -123,11 +123,11 @@ module _ (family : ℕ) (w : Walk) where
       go true e = sym h ∙ ap (λ (a : Said). fits_slot a.uid (mask_length w.level) (whole_mask w) w.slot) (alike_true (said c) (said d) e) ∙ g
       go false e = refl
 
-  repeated-among : (c : Card) (ts : List Tag) → AllObey ts → c.uid < 2 ^ 64 → fits c ≡ true
+  repeated_among : (c : Card) (ts : List Tag) → AllObey ts → c.uid < 2 ^ 64 → fits c ≡ true
       → is_repeated (message c) (messages (callers family w ts)) ≡ is_among (said c) (said_by family ts)
   unfolding callers messages is_repeated is_among said_by calls
-  repeated-among c [] demand.none h f = refl
-  repeated-among c (t ∷ ts) (demand.more o os) h f = go (answers family t.card) (fits t.card) refl (repeated-among c ts os h f)
+  repeated_among c [] demand.none h f = refl
+  repeated_among c (t ∷ ts) (demand.more o os) h f = go (answers family t.card) (fits t.card) refl (repeated_among c ts os h f)
     where
       go : (a b : Bool) → fits t.card ≡ b → is_repeated (message c) (messages (callers family w ts)) ≡ is_among (said c) (said_by family ts)
           → is_repeated (message c) (messages (cond (a && b) (t.card ∷ callers family w ts) (callers family w ts)))
@@ -136,19 +136,19 @@ module _ (family : ℕ) (w : Walk) where
       go true false e rest = rw (unlike c t.card f e) rest
       go false b e rest = rest
 
-  different-callers : (ts : List Tag) → AllObey ts → different_rows (messages (callers family w ts)) ≡ messages (callers family w (apart family ts))
+  different_callers : (ts : List Tag) → AllObey ts → different_rows (messages (callers family w ts)) ≡ messages (callers family w (apart family ts))
   unfolding callers messages different_rows apart calls
-  different-callers [] demand.none = refl
-  different-callers (t ∷ ts) (demand.more o os) =
-      go (answers family t.card) (fits t.card) (is_among (said t.card) (said_by family ts)) refl refl refl (different-callers ts os)
+  different_callers [] demand.none = refl
+  different_callers (t ∷ ts) (demand.more o os) =
+      go (answers family t.card) (fits t.card) (is_among (said t.card) (said_by family ts)) refl refl refl (different_callers ts os)
     where
       go : (a b s : Bool) → answers family t.card ≡ a → fits t.card ≡ b → is_among (said t.card) (said_by family ts) ≡ s
           → different_rows (messages (callers family w ts)) ≡ messages (callers family w (apart family ts))
           → different_rows (messages (cond (a && b) (t.card ∷ callers family w ts) (callers family w ts)))
           ≡ messages (callers family w (cond (a && s) (apart family ts) (t ∷ apart family ts)))
-      go true true true p q r rest = rw (repeated-among t.card ts os o.uid_fits q, r) rest
+      go true true true p q r rest = rw (repeated_among t.card ts os o.uid_fits q, r) rest
       go true true false p q r rest =
-          rw (repeated-among t.card ts os o.uid_fits q, r, p, q) (ap (λ (ms : List (List ℕ)). message t.card ∷ ms) rest)
+          rw (repeated_among t.card ts os o.uid_fits q, r, p, q) (ap (λ (ms : List (List ℕ)). message t.card ∷ ms) rest)
       go true false true p q r rest = rest
       go true false false p q r rest = rw (p, q) rest
       go false b s p q r rest = rw p rest
@@ -188,7 +188,7 @@ coil_brings_apart : (us : List ℕ) (family : ℕ) (tags : List Tag) → AllObey
     → Brings coil_air levels us family tags
 unfolding CoilArrives
 coil_brings_apart us family tags obey marked brings w long same accepted =
-    rw (coil_arrives (messages (callers family w tags)) (callers_answer family w tags marked), different-callers family w tags obey)
+    rw (coil_arrives (messages (callers family w tags)) (callers_answer family w tags marked), different_callers family w tags obey)
     (brings w long same accepted)
 
 pub coil_demand3 : CoilDemand3

@@ -45,22 +45,22 @@ found_one u p found =
 -- ---- two cards
 
 module _ (family : ℕ) (a b : Tag) (p : answers family a.card ≡ true) (q : answers family b.card ≡ true) where
-  two-begin : b.card.uid / 2 ^ 56 ≡ 0xe0 → a.card.uid ≡ b.card.uid → BeginE0 (answering family (a ∷ b ∷ []))
+  two_begin : b.card.uid / 2 ^ 56 ≡ 0xe0 → a.card.uid ≡ b.card.uid → BeginE0 (answering family (a ∷ b ∷ []))
   unfolding answering
-  two-begin e u = rw (p, q) (begin_more a.card.uid (b.card.uid ∷ []) (rw u e) (begin_more b.card.uid [] e begin_none))
+  two_begin e u = rw (p, q) (begin_more a.card.uid (b.card.uid ∷ []) (rw u e) (begin_more b.card.uid [] e begin_none))
 
   two_said : different_answers family (a ∷ b ∷ [])
       ≡ cond (alike (said a.card) (said b.card) || false) (said b.card ∷ []) (said a.card ∷ said b.card ∷ [])
   unfolding different_answers said_by distinct is_among
   two_said = rw (p, q)
 
-  one-said : a.card.uid ≡ b.card.uid → a.card.dsfid ≡ b.card.dsfid → different_answers family (a ∷ b ∷ []) ≡ said b.card ∷ []
-  one-said u d =
+  one_said : a.card.uid ≡ b.card.uid → a.card.dsfid ≡ b.card.dsfid → different_answers family (a ∷ b ∷ []) ≡ said b.card ∷ []
+  one_said u d =
       let same : said a.card ≡ said b.card = ap₂ saying u d in
       two_said ∙ rw (same, alike_self (said b.card))
 
-  few-said : length (different_answers family (a ∷ b ∷ [])) ≤ 64
-  few-said = rw two_said (go (alike (said a.card) (said b.card) || false))
+  few_said : length (different_answers family (a ∷ b ∷ [])) ≤ 64
+  few_said = rw two_said (go (alike (said a.card) (said b.card) || false))
     where
       go : (s : Bool) → length (cond s (said b.card ∷ []) (said a.card ∷ said b.card ∷ [])) ≤ 64
       go true = omega arith
@@ -83,9 +83,9 @@ coil_fields =
     record {
       two_alike = λ family a b list room obey fit places wide p q e u d.
           found_one b.card.uid _
-          (rw (one-said family a b p q u d) at (coil_demand3 family (a ∷ b ∷ []) list room obey fit (two-begin family a b p q e u) places wide).found);
+          (rw (one_said family a b p q u d) at (coil_demand3 family (a ∷ b ∷ []) list room obey fit (two_begin family a b p q e u) places wide).found);
       two_dsfids = λ family a b list room obey fit places wide p q e u d.
-          (coil_twins family (a ∷ b ∷ []) list room obey fit (two-begin family a b p q e u) places wide).differ_twins (few-said family a b p q)
+          (coil_twins family (a ∷ b ∷ []) list room obey fit (two_begin family a b p q e u) places wide).differ_twins (few_said family a b p q)
           (unlike family a b p q u d);
       answer_told = λ n left h. rw (lt-ltb n 131072 h);
       bad_told = λ n left h. rw (le-ltb n 131072 h);

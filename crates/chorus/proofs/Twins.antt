@@ -30,18 +30,18 @@ unfolding times_said times tally uids_of sum.one
 two_said u d e [] n = omega arith
 two_said u d e (a ∷ rest) n = go (alike (saying u d) a) (alike (saying u e) a) refl refl (two_said u d e rest n)
   where
-    uid-is : (x : ℕ) → alike (saying u x) a ≡ true → eqb a.uid u ≡ true
-    uid-is x f = eq-eqb a.uid u (sym (ap (λ (b : Said). b.uid) (alike_true (saying u x) a f)))
+    uid_is : (x : ℕ) → alike (saying u x) a ≡ true → eqb a.uid u ≡ true
+    uid_is x f = eq-eqb a.uid u (sym (ap (λ (b : Said). b.uid) (alike_true (saying u x) a f)))
 
-    dsfid-is : (x : ℕ) → alike (saying u x) a ≡ true → x ≡ a.dsfid
-    dsfid-is x f = ap (λ (b : Said). b.dsfid) (alike_true (saying u x) a f)
+    dsfid_is : (x : ℕ) → alike (saying u x) a ≡ true → x ≡ a.dsfid
+    dsfid_is x f = ap (λ (b : Said). b.dsfid) (alike_true (saying u x) a f)
 
     go : (b c : Bool) → alike (saying u d) a ≡ b → alike (saying u e) a ≡ c
         → times_said (saying u d) rest + times_said (saying u e) rest ≤ times u (uids_of rest)
         → times_said (saying u d) (a ∷ rest) + times_said (saying u e) (a ∷ rest) ≤ times u (a.uid ∷ uids_of rest)
-    go true true f g later = absurd (n (dsfid-is d f ∙ sym (dsfid-is e g)))
-    go true false f g later = rw (f, g, uid-is d f) (omega arith)
-    go false true f g later = rw (f, g, uid-is e g) (omega arith)
+    go true true f g later = absurd (n (dsfid_is d f ∙ sym (dsfid_is e g)))
+    go true false f g later = rw (f, g, uid_is d f) (omega arith)
+    go false true f g later = rw (f, g, uid_is e g) (omega arith)
     go false false f g later = rw (f, g) (omega arith)
 
 -- ---- a UID that stands twice is that of two answers, where each stands once
@@ -101,8 +101,8 @@ said_twice u (a ∷ rest) once h = go (ℕ_discrete a.uid u) h (said_twice u res
 -- ---- of cards
 
 module _ (family : ℕ) (tags : List Tag) where
-  unlike-of-two : (u : ℕ) → 2 ≤ times u (uids_of (different_answers family tags)) → UnlikeTwins family tags
-  unlike-of-two u h =
+  unlike_of_two : (u : ℕ) → 2 ≤ times u (uids_of (different_answers family tags)) → UnlikeTwins family tags
+  unlike_of_two u h =
       let two = said_twice u (different_answers family tags) (at_most_once family tags) h in
       record {
         uid = u;
@@ -113,8 +113,8 @@ module _ (family : ℕ) (tags : List Tag) where
         differ = two.differ;
       }
 
-  two-of-unlike : (t : UnlikeTwins family tags) → 2 ≤ times t.uid (uids_of (different_answers family tags))
-  two-of-unlike t =
+  two_of_unlike : (t : UnlikeTwins family tags) → 2 ≤ times t.uid (uids_of (different_answers family tags))
+  two_of_unlike t =
       omega (
         arith,
         two_said t.uid t.one t.other (different_answers family tags) t.differ,
@@ -122,13 +122,13 @@ module _ (family : ℕ) (tags : List Tag) where
         each_once.once family tags (saying t.uid t.other) t.other_speaks,
       )
 
-  different-of-none : (UnlikeTwins family tags → ⊥) → Different (uids_of (different_answers family tags))
+  different_of_none : (UnlikeTwins family tags → ⊥) → Different (uids_of (different_answers family tags))
   unfolding Different
-  different-of-none h u = go (dec_le (times u (uids_of (different_answers family tags))) 1)
+  different_of_none h u = go (dec_le (times u (uids_of (different_answers family tags))) 1)
     where
       go : Dec (times u (uids_of (different_answers family tags)) ≤ 1) → times u (uids_of (different_answers family tags)) ≤ 1
       go (yes few) = few
-      go (no many) = absurd (h (unlike-of-two u (omega arith)))
+      go (no many) = absurd (h (unlike_of_two u (omega arith)))
 
 pub coil_twins : CoilTwins
 unfolding CoilTwins CoilDemand3 Different
@@ -136,7 +136,7 @@ coil_twins family tags list room obey marked begin places fits =
     let found = (coil_demand3 family tags list room obey marked begin places fits).found in
     let long : length (uids_of (different_answers family tags)) ≡ length (different_answers family tags) = length_uids (different_answers family tags) in
     record {
-      twins_differ = λ e. unlike-of-two family tags (found.twins_alike e).uid (found.twins_alike e).twice;
-      differ_twins = λ few t. found.alike (rw long few) (λ once. absurd (omega (arith, once t.uid, two-of-unlike family tags t)));
-      else_completes = λ few h. found.completes (rw long few) (different-of-none family tags h);
+      twins_differ = λ e. unlike_of_two family tags (found.twins_alike e).uid (found.twins_alike e).twice;
+      differ_twins = λ few t. found.alike (rw long few) (λ once. absurd (omega (arith, once t.uid, two_of_unlike family tags t)));
+      else_completes = λ few h. found.completes (rw long few) (different_of_none family tags h);
     }

@@ -15,17 +15,17 @@ use Rattle.coil.specs.Track.{answer_track, answer_track_length}
 use Rattle.coil.specs.Coder.{CodesAnswer}
 use Rattle.coil.specs.Decoder.{DecodesAnswer}
 use Rattle.coil.specs.Read.{Codable}
-use Rattle.coil.proofs.Pairs.{length-track}
+use Rattle.coil.proofs.Pairs.{length_track}
 use Rattle.coil.proofs.RoundTrip.{reading_of_track}
-use Rattle.coil.proofs.CodeWays.{codes-too-short, codes-too-long, codes-no-room, codes-served}
-use Rattle.coil.proofs.Read.{what-is-told}
+use Rattle.coil.proofs.CodeWays.{codes_too_short, codes_too_long, codes_no_room, codes_served}
+use Rattle.coil.proofs.Read.{what_is_told}
 use Rattle.coil.proofs.Unique.{coil_code_unique}
 
 -- every answer is coded that has room for its track
 pub answer_coded : (answer found : List ℕ) (r : ℤ) (left : List ℕ) → 3 ≤ length answer → length answer ≤ 8451 → 2 + 2 * length answer ≤ length found
     → CodesAnswer answer found r left → (r ≡ pos (2 + 2 * length answer)) × (left ≡ over (answer_track answer) found)
 unfolding shortest_answer longest_answer
-answer_coded answer found r left least most room code = coil_code_unique code (codes-served answer found least most room)
+answer_coded answer found r left least most room code = coil_code_unique code (codes_served answer found least most room)
 
 module _ {answer room : List ℕ} {n : ℕ} {track : List ℕ} (code : CodesAnswer answer room (pos n) track) where
   -- a coder that answers a length was given nothing to refuse
@@ -34,32 +34,32 @@ module _ {answer room : List ℕ} {n : ℕ} {track : List ℕ} (code : CodesAnsw
     where
       go : Dec (shortest_answer ≤ length answer) → shortest_answer ≤ length answer
       go (yes h) = h
-      go (no h) = absurd (pos-ne-negsuc n 6 (coil_code_unique code (codes-too-short answer room (omega arith))).0)
+      go (no h) = absurd (pos-ne-negsuc n 6 (coil_code_unique code (codes_too_short answer room (omega arith))).0)
 
   most : length answer ≤ longest_answer
   most = go (dec_le (length answer) longest_answer)
     where
       go : Dec (length answer ≤ longest_answer) → length answer ≤ longest_answer
       go (yes h) = h
-      go (no h) = absurd (pos-ne-negsuc n 6 (coil_code_unique code (codes-too-long answer room least (omega arith))).0)
+      go (no h) = absurd (pos-ne-negsuc n 6 (coil_code_unique code (codes_too_long answer room least (omega arith))).0)
 
   wide : answer_track_length (length answer) ≤ length room
   wide = go (dec_le (answer_track_length (length answer)) (length room))
     where
       go : Dec (answer_track_length (length answer) ≤ length room) → answer_track_length (length answer) ≤ length room
       go (yes h) = h
-      go (no h) = absurd (pos-ne-negsuc n 7 (coil_code_unique code (codes-no-room answer room least most (omega arith))).0)
+      go (no h) = absurd (pos-ne-negsuc n 7 (coil_code_unique code (codes_no_room answer room least most (omega arith))).0)
 
   -- its first bytes, as many as it answers, are the track
-  pub coded-track : take n track ≡ answer_track answer
-  coded-track =
-      let served = coil_code_unique code (codes-served answer room least most wide) in
+  pub coded_track : take n track ≡ answer_track answer
+  coded_track =
+      let served = coil_code_unique code (codes_served answer room least most wide) in
       let size : n ≡ answer_track_length (length answer) = ap nat_abs served.0 in
-      rw (served.1, size, ← (length-track answer)) (take_over (answer_track answer) room)
+      rw (served.1, size, ← (length_track answer)) (take_over (answer_track answer) room)
 
   -- decoding them gives the answer back
-  pub answer-of-code : {found : List ℕ} {r : ℤ} {left : List ℕ} → Bytes answer → longest_answer ≤ length found → DecodesAnswer (take n track) found r left
+  pub answer_of_code : {found : List ℕ} {r : ℤ} {left : List ℕ} → Bytes answer → longest_answer ≤ length found → DecodesAnswer (take n track) found r left
       → (r ≡ pos (length answer)) × (left ≡ over answer found)
-  answer-of-code {found} bytes wide_enough decode =
+  answer_of_code {found} bytes wide_enough decode =
       let is : Codable answer = record { bytes = bytes; least = least; most = most } in
-      (what-is-told (answer_track answer) found _ _ wide_enough (rw coded-track at decode)).of_answer answer (reading_of_track answer is)
+      (what_is_told (answer_track answer) found _ _ wide_enough (rw coded_track at decode)).of_answer answer (reading_of_track answer is)

@@ -16,47 +16,47 @@ use Rattle.coil.proofs.Bytes.{length_bytes_from}
 use Rattle.coil.proofs.Framed.{framed_of_test}
 
 module _ (t found : List ℕ) where
-  pub decodes-no-room : length found < longest_answer → DecodesAnswer t found (refused 8) found
+  pub decodes_no_room : length found < longest_answer → DecodesAnswer t found (refused 8) found
   unfolding decode_answer decode_leaves
-  decodes-no-room h = record { tells = rw (lt-leb longest_answer (length found) h); leaves = rw (lt-leb longest_answer (length found) h) }
+  decodes_no_room h = record { tells = rw (lt-leb longest_answer (length found) h); leaves = rw (lt-leb longest_answer (length found) h) }
 
   module _ (room : longest_answer ≤ length found) where
     -- by what is read
-    pub decodes-reading : (read : Reading) → reading t ≡ read → DecodesAnswer t found (number read) (written read found)
+    pub decodes_reading : (read : Reading) → reading t ≡ read → DecodesAnswer t found (number read) (written read found)
     unfolding decode_answer decode_leaves
-    decodes-reading read is =
+    decodes_reading read is =
         record { tells = rw (le-leb longest_answer (length found) room, is); leaves = rw (le-leb longest_answer (length found) room, is) }
 
-    pub decodes-no-track : is_framed t ≡ false → DecodesAnswer t found (refused 12) found
+    pub decodes_no_track : is_framed t ≡ false → DecodesAnswer t found (refused 12) found
     unfolding reading number written
-    decodes-no-track h = decodes-reading no-track (rw h)
+    decodes_no_track h = decodes_reading no-track (rw h)
 
     module _ (framed : is_framed t ≡ true) where
-      pub decodes-answer : 8 * bytes_in t ≤ first_bad t → DecodesAnswer t found (told 0 (bytes_in t)) (over (bytes_from t 0 (bytes_in t)) found)
+      pub decodes_answer : 8 * bytes_in t ≤ first_bad t → DecodesAnswer t found (told 0 (bytes_in t)) (over (bytes_from t 0 (bytes_in t)) found)
       unfolding reading read_to number written
-      decodes-answer h =
+      decodes_answer h =
           rw (length_bytes_from t 0 (bytes_in t)) at
-          (decodes-reading (an-answer (bytes_from t 0 (bytes_in t))) (rw (framed, le-ltb (first_bad t) (8 * bytes_in t) h)))
+          (decodes_reading (an-answer (bytes_from t 0 (bytes_in t))) (rw (framed, le-ltb (first_bad t) (8 * bytes_in t) h)))
 
-      pub decodes-bad : first_bad t < 8 * bytes_in t → DecodesAnswer t found (pos (bad_bit t (first_bad t))) found
+      pub decodes_bad : first_bad t < 8 * bytes_in t → DecodesAnswer t found (pos (bad_bit t (first_bad t))) found
       unfolding reading read_to number written bad_bit
-      decodes-bad some = go (is_clash (pair_at t (first_bad t))) refl
+      decodes_bad some = go (is_clash (pair_at t (first_bad t))) refl
         where
           go : (b : Bool) → is_clash (pair_at t (first_bad t)) ≡ b
               → DecodesAnswer t found (pos (cond b (131072 + first_bad t) (262144 + first_bad t))) found
-          go true e = decodes-reading (a-clash (first_bad t)) (rw (framed, lt-ltb (first_bad t) (8 * bytes_in t) some, e))
-          go false e = decodes-reading (a-loss (first_bad t)) (rw (framed, lt-ltb (first_bad t) (8 * bytes_in t) some, e))
+          go true e = decodes_reading (a-clash (first_bad t)) (rw (framed, lt-ltb (first_bad t) (8 * bytes_in t) some, e))
+          go false e = decodes_reading (a-loss (first_bad t)) (rw (framed, lt-ltb (first_bad t) (8 * bytes_in t) some, e))
 
 -- ---- what the code computes of a framed track
 
 module _ (t : List ℕ) (framed : is_framed t ≡ true) where
-  pub framed-length : length t ≡ 2 + 2 * ((length t - 2) / 2)
+  pub framed_length : length t ≡ 2 + 2 * ((length t - 2) / 2)
   unfolding bytes_in
-  framed-length = (framed_of_test t framed).long
+  framed_length = (framed_of_test t framed).long
 
-  pub framed-most : (length t - 2) / 2 ≤ 8451
+  pub framed_most : (length t - 2) / 2 ≤ 8451
   unfolding bytes_in longest_answer
-  framed-most = (framed_of_test t framed).most
+  framed_most = (framed_of_test t framed).most
 
 pub first_bad_is : (t : List ℕ) (k : ℕ) → k ≡ first_from (is_bad t) 0 (4 * (2 * ((length t - 2) / 2))) → k ≡ first_bad t
 unfolding first_bad bytes_in

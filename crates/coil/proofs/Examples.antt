@@ -15,11 +15,11 @@ use Rattle.coil.specs.Coder.{is_answer_length}
 use Rattle.coil.specs.Read.{Codable, Framed}
 use Rattle.coil.specs.Overlay.{overlay, on_coil}
 use Rattle.coil.specs.Examples.{Coil}
-use Rattle.coil.proofs.Pairs.{length-track, track-byte}
-use Rattle.coil.proofs.Framed.{framed_of_test, reading-clash, reading-loss}
+use Rattle.coil.proofs.Pairs.{length_track, track_byte}
+use Rattle.coil.proofs.Framed.{framed_of_test, reading_clash, reading_loss}
 use Rattle.coil.proofs.RoundTrip.{reading_of_track}
-use Rattle.coil.proofs.CodeWays.{codes-too-short, codes-too-long, codes-no-room, codes-served}
-use Rattle.coil.proofs.DecodeWays.{decodes-no-room, decodes-reading, decodes-no-track}
+use Rattle.coil.proofs.CodeWays.{codes_too_short, codes_too_long, codes_no_room, codes_served}
+use Rattle.coil.proofs.DecodeWays.{decodes_no_room, decodes_reading, decodes_no_track}
 use Rattle.coil.proofs.Unique.{coil_code_unique, coil_decode_unique}
 
 -- ---- E1
@@ -29,8 +29,8 @@ coded_byte : (answer found : List ℕ) (j : ℕ) → j < 2 * length answer
     → get_or (over (answer_track answer) found) (1 + j) 0 ≡ half (get_or answer (j / 2) 0 / 16 ^ (j % 2))
 unfolding over
 coded_byte answer found j h =
-    get_or-append (answer_track answer) (drop (length (answer_track answer)) found) 0 (1 + j) (rw (length-track answer) (omega arith))
-    ∙ track-byte answer j h
+    get_or-append (answer_track answer) (drop (length (answer_track answer)) found) 0 (1 + j) (rw (length_track answer) (omega arith))
+    ∙ track_byte answer j h
 
 e1_halves : (half 0xe1 ≡ 0x6a) × (half (0xe1 / 16) ≡ 0x95)
 unfolding half pair_of
@@ -46,8 +46,8 @@ module _ (answer found : List ℕ) (i : ℕ) (is : get_or answer i 0 ≡ 0xe1) w
           let none : get_or answer i 0 ≡ 0 = get_or-eq_default answer 0 (omega arith) in
           absurd (omega arith)
 
-  e1-coded : (get_or (over (answer_track answer) found) (1 + 2 * i) 0 ≡ 0x6a) × (get_or (over (answer_track answer) found) (2 + 2 * i) 0 ≡ 0x95)
-  e1-coded =
+  e1_coded : (get_or (over (answer_track answer) found) (1 + 2 * i) 0 ≡ 0x6a) × (get_or (over (answer_track answer) found) (2 + 2 * i) 0 ≡ 0x95)
+  e1_coded =
       let h : i < length answer = inside in
       let even : 2 * i / 2 ≡ i = omega arith in
       let first : 2 * i % 2 ≡ 0 = omega arith in
@@ -134,33 +134,33 @@ unfolding shortest_answer longest_answer number written
 coil =
     record {
       e1 = λ answer found r left i least most room p is.
-          rw (coil_code_unique p (codes-served answer found least most room)).1 (e1-coded answer found i is);
-      each_bit = λ found r left room p. rw bits_track at (coil_code_unique p (codes-served bits found (omega arith) (omega arith) room));
-      success = λ found r left room p. rw plain_track at (coil_code_unique p (codes-served plain found (omega arith) (omega arith) room));
+          rw (coil_code_unique p (codes_served answer found least most room)).1 (e1_coded answer found i is);
+      each_bit = λ found r left room p. rw bits_track at (coil_code_unique p (codes_served bits found (omega arith) (omega arith) room));
+      success = λ found r left room p. rw plain_track at (coil_code_unique p (codes_served plain found (omega arith) (omega arith) room));
       success_read = λ found r left room p.
-          coil_decode_unique p (rw plain_track at (decodes-reading (answer_track plain) found room (an-answer plain) (reading_of_track plain plain_answer)));
-      two_bytes = λ answer found r left n p. coil_code_unique p (codes-too-short answer found (omega arith));
-      too_long = λ answer found r left n p. coil_code_unique p (codes-too-long answer found (omega arith) n);
-      track_room_short = λ answer found r left least most room p. coil_code_unique p (codes-no-room answer found least most room);
-      room_short = λ t found r left n p. coil_decode_unique p (decodes-no-room t found (omega arith));
-      no_end = λ t found r left room other p. coil_decode_unique p (decodes-no-track t found room (not_framed t (no_end_framed t other)));
-      no_start = λ t found r left room other p. coil_decode_unique p (decodes-no-track t found room (not_framed t (λ framed. other framed.starts)));
+          coil_decode_unique p (rw plain_track at (decodes_reading (answer_track plain) found room (an-answer plain) (reading_of_track plain plain_answer)));
+      two_bytes = λ answer found r left n p. coil_code_unique p (codes_too_short answer found (omega arith));
+      too_long = λ answer found r left n p. coil_code_unique p (codes_too_long answer found (omega arith) n);
+      track_room_short = λ answer found r left least most room p. coil_code_unique p (codes_no_room answer found least most room);
+      room_short = λ t found r left n p. coil_decode_unique p (decodes_no_room t found (omega arith));
+      no_end = λ t found r left room other p. coil_decode_unique p (decodes_no_track t found room (not_framed t (no_end_framed t other)));
+      no_start = λ t found r left room other p. coil_decode_unique p (decodes_no_track t found room (not_framed t (λ framed. other framed.starts)));
       track_short = λ t found r left room few p.
-          coil_decode_unique p (decodes-no-track t found room (not_framed t (λ framed. absurd (omega (arith, framed.long, framed.least)))));
+          coil_decode_unique p (decodes_no_track t found room (not_framed t (λ framed. absurd (omega (arith, framed.long, framed.least)))));
       track_long = λ t found r left room many p.
-          coil_decode_unique p (decodes-no-track t found room (not_framed t (λ framed. absurd (omega (arith, framed.long, framed.most)))));
+          coil_decode_unique p (decodes_no_track t found room (not_framed t (λ framed. absurd (omega (arith, framed.long, framed.most)))));
       odd_length = λ t found n r left room odd p.
-          coil_decode_unique p (decodes-no-track t found room (not_framed t (λ framed. absurd (omega (arith, framed.long, odd)))));
+          coil_decode_unique p (decodes_no_track t found room (not_framed t (λ framed. absurd (omega (arith, framed.long, odd)))));
       clash_at_0 = λ t found n r left room framed pair p.
-          let read = reading-clash n 0 t framed (omega (arith, framed.least)) (λ i h. absurd (omega arith)) pair in
-          coil_decode_unique p (decodes-reading t found room (a-clash 0) read);
+          let read = reading_clash n 0 t framed (omega (arith, framed.least)) (λ i h. absurd (omega arith)) pair in
+          coil_decode_unique p (decodes_reading t found room (a-clash 0) read);
       lost_at_0 = λ t found n r left room framed pair p.
-          let read = reading-loss n 0 t framed (omega (arith, framed.least)) (λ i h. absurd (omega arith)) pair in
-          coil_decode_unique p (decodes-reading t found room (a-loss 0) read);
-      clash_at_1 = λ found r left room p. coil_decode_unique p (decodes-reading _ found room (a-clash 1) one_read);
-      lost_at_4 = λ found r left room p. coil_decode_unique p (decodes-reading _ found room (a-loss 4) four_read);
-      lost_at_23 = λ found r left room p. coil_decode_unique p (decodes-reading _ found room (a-loss 23) last_read);
-      lost_at_159 = λ found r left room p. coil_decode_unique p (decodes-reading _ found room (a-loss 159) far_read);
+          let read = reading_loss n 0 t framed (omega (arith, framed.least)) (λ i h. absurd (omega arith)) pair in
+          coil_decode_unique p (decodes_reading t found room (a-loss 0) read);
+      clash_at_1 = λ found r left room p. coil_decode_unique p (decodes_reading _ found room (a-clash 1) one_read);
+      lost_at_4 = λ found r left room p. coil_decode_unique p (decodes_reading _ found room (a-loss 4) four_read);
+      lost_at_23 = λ found r left room p. coil_decode_unique p (decodes_reading _ found room (a-loss 23) last_read);
+      lost_at_159 = λ found r left room p. coil_decode_unique p (decodes_reading _ found room (a-loss 159) far_read);
       laid_over = laid;
       laid_over_read = laid_read;
     }

@@ -80,9 +80,9 @@ all_none b (suc (suc (suc (suc q)))) h none = absurd (omega arith)
 
 module _ (t : List ℕ) (i : ℕ) where
   -- no bit of a byte without flaws is bad
-  pub no-flaw : flaws (get_or t (1 + i) 0) ≡ 0 → (q : ℕ) → q < 4 → is_bad t (4 * i + q) ≡ false
+  pub no_flaw : flaws (get_or t (1 + i) 0) ≡ 0 → (q : ℕ) → q < 4 → is_bad t (4 * i + q) ≡ false
   unfolding is_bad
-  no-flaw none q h = rw (pair_in_lem t i q h) (flaw_none (pair_in (get_or t (1 + i) 0) q) (all_none (get_or t (1 + i) 0) q h none))
+  no_flaw none q h = rw (pair_in_lem t i q h) (flaw_none (pair_in (get_or t (1 + i) 0) q) (all_none (get_or t (1 + i) 0) q h none))
 
   -- the first bad bit of a byte with flaws
   pub record FirstFlaw (q : ℕ) : Type 0 where
@@ -144,7 +144,7 @@ pass_bytes t i m good none j h = go (dec_lt j (4 * i))
     go (yes l) = good j l
     go (no l) =
         let place : j ≡ 4 * (i + k) + j % 4 = omega arith in
-        rw place (no-flaw t (i + k) (rw (add_assoc 1 i k) at (none k (omega arith))) (j % 4) (omega arith))
+        rw place (no_flaw t (i + k) (rw (add_assoc 1 i k) at (none k (omega arith))) (j % 4) (omega arith))
 
 -- one byte
 pub pass_byte : (t : List ℕ) (i : ℕ) → ((j : ℕ) → j < 4 * i → is_bad t j ≡ false) → flaws (get_or t (1 + i) 0) ≡ 0

@@ -120,14 +120,14 @@ reading_answer n t p good =
     )
 
 module _ (n k : ℕ) (t : List ℕ) (p : Framed n t) (h : k < 8 * n) (good : GoodBefore k t) where
-  first-at : (is_clash (pair_at t k) || is_lost (pair_at t k)) ≡ true → First (is_bad t) 0 (8 * n) k
+  first_at : (is_clash (pair_at t k) || is_lost (pair_at t k)) ≡ true → First (is_bad t) 0 (8 * n) k
   unfolding is_bad
-  first-at bad = record { least = omega arith; most = omega arith; holds = λ g. bad; fails = λ i g l. good_test (good i l) }
+  first_at bad = record { least = omega arith; most = omega arith; holds = λ g. bad; fails = λ i g l. good_test (good i l) }
 
-  pub reading-clash : pair_at t k ≡ 3 → reading t ≡ a-clash k
+  pub reading_clash : pair_at t k ≡ 3 → reading t ≡ a-clash k
   unfolding reading read_to first_bad
-  reading-clash e = rw (test_of_framed n t p, bytes_of_framed n t p, first_is (first-at (rw e)), lt-ltb k (8 * n) h, e)
+  reading_clash e = rw (test_of_framed n t p, bytes_of_framed n t p, first_is (first_at (rw e)), lt-ltb k (8 * n) h, e)
 
-  pub reading-loss : pair_at t k ≡ 0 → reading t ≡ a-loss k
+  pub reading_loss : pair_at t k ≡ 0 → reading t ≡ a-loss k
   unfolding reading read_to first_bad
-  reading-loss e = rw (test_of_framed n t p, bytes_of_framed n t p, first_is (first-at (rw e)), lt-ltb k (8 * n) h, e)
+  reading_loss e = rw (test_of_framed n t p, bytes_of_framed n t p, first_is (first_at (rw e)), lt-ltb k (8 * n) h, e)

@@ -18,7 +18,7 @@ use Rattle.coil.specs.Track.{pair_of, half, answer_track}
 use Rattle.coil.specs.Decoder.{pair_at, byte_at, bytes_from}
 use Rattle.coil.specs.Read.{Codable, Framed, Good, zero_bit, one_bit, GoodBefore}
 use Rattle.coil.specs.Steps.{four_bits, flaw, flaws}
-use Rattle.coil.proofs.Pairs.{length-track, track-start, track-byte, track-end}
+use Rattle.coil.proofs.Pairs.{length_track, track_start, track_byte, track_end}
 use Rattle.coil.proofs.Flaws.{pair_in, pair_in_lem}
 use Rattle.coil.proofs.Bytes.{four_bits_most, byte_of_fours, length_bytes_from, byte_from}
 
@@ -66,19 +66,19 @@ module _ (n : ℕ) (t : List ℕ) (bytes : Bytes t) (framed : Framed n t) (good 
   abbrev answer : List ℕ
   answer = bytes_from t 0 n
 
-  answer-length : length answer ≡ n
-  answer-length = length_bytes_from t 0 n
+  answer_length : length answer ≡ n
+  answer_length = length_bytes_from t 0 n
 
   -- byte k of the answer
-  two-of : (k : ℕ) → k < n → get_or answer k 0 ≡ four_bits (get_or t (1 + 2 * k) 0) + 16 * four_bits (get_or t (1 + (2 * k + 1)) 0)
-  two-of k h = byte_from t 0 n k h ∙ ap (byte_at t) (zero-add k) ∙ byte_of_fours t k
+  two_of : (k : ℕ) → k < n → get_or answer k 0 ≡ four_bits (get_or t (1 + 2 * k) 0) + 16 * four_bits (get_or t (1 + (2 * k + 1)) 0)
+  two_of k h = byte_from t 0 n k h ∙ ap (byte_at t) (zero-add k) ∙ byte_of_fours t k
 
   back : (i : ℕ) → i < 2 * n → half (four_bits (get_or t (1 + i) 0)) ≡ get_or t (1 + i) 0
   back i h = half_of_bits (get_or t (1 + i) 0) (bytes (1 + i)) (good_flaws t i (λ q l. good (4 * i + q) (omega arith)))
 
   low_byte : (k : ℕ) → k < n → half (get_or answer k 0) ≡ get_or t (1 + 2 * k) 0
   low_byte k h =
-      rw (two-of k h) (half_low (four_bits (get_or t (1 + 2 * k) 0)) (four_bits (get_or t (1 + (2 * k + 1)) 0)))
+      rw (two_of k h) (half_low (four_bits (get_or t (1 + 2 * k) 0)) (four_bits (get_or t (1 + (2 * k + 1)) 0)))
       ∙ back (2 * k) (omega arith)
 
   high_byte : (k : ℕ) → k < n → half (get_or answer k 0 / 16) ≡ get_or t (1 + (2 * k + 1)) 0
@@ -87,14 +87,14 @@ module _ (n : ℕ) (t : List ℕ) (bytes : Bytes t) (framed : Framed n t) (good 
       let b : ℕ = four_bits (get_or t (1 + (2 * k + 1)) 0) in
       let few : a ≤ 15 = four_bits_most (get_or t (1 + 2 * k) 0) in
       let high : (a + 16 * b) / 16 ≡ b = omega arith in
-      rw (two-of k h, high) (back (2 * k + 1) (omega arith))
+      rw (two_of k h, high) (back (2 * k + 1) (omega arith))
 
   -- byte i after the start
-  byte-back : (i : ℕ) → i < 2 * n → get_or t (1 + i) 0 ≡ get_or (answer_track answer) (1 + i) 0
-  byte-back i h =
+  byte_back : (i : ℕ) → i < 2 * n → get_or t (1 + i) 0 ≡ get_or (answer_track answer) (1 + i) 0
+  byte_back i h =
       let k : ℕ = i / 2 in
-      let inside : i < 2 * length answer = omega (arith, answer-length) in
-      rw (track-byte answer i inside) (side (i % 2) refl (omega arith))
+      let inside : i < 2 * length answer = omega (arith, answer_length) in
+      rw (track_byte answer i inside) (side (i % 2) refl (omega arith))
     where
       side : (s : ℕ) → i % 2 ≡ s → s < 2 → get_or t (1 + i) 0 ≡ half (get_or answer (i / 2) 0 / 16 ^ s)
       side zero e l =
@@ -105,33 +105,33 @@ module _ (n : ℕ) (t : List ℕ) (bytes : Bytes t) (framed : Framed n t) (good 
           ap (λ (j : ℕ). get_or t (1 + j) 0) place ∙ sym (high_byte (i / 2) (omega arith))
       side (suc (suc s)) e l = absurd (omega arith)
 
-  place-back : (j : ℕ) → j < length t → get_or t j 0 ≡ get_or (answer_track answer) j 0
-  place-back zero h = framed.starts ∙ sym (track-start answer)
-  place-back (suc i) h = rw (← one-add i) (go (dec_lt i (2 * n)))
+  place_back : (j : ℕ) → j < length t → get_or t j 0 ≡ get_or (answer_track answer) j 0
+  place_back zero h = framed.starts ∙ sym (track_start answer)
+  place_back (suc i) h = rw (← one-add i) (go (dec_lt i (2 * n)))
     where
       go : Dec (i < 2 * n) → get_or t (1 + i) 0 ≡ get_or (answer_track answer) (1 + i) 0
-      go (yes l) = byte-back i l
+      go (yes l) = byte_back i l
       go (no l) =
           let last : i ≡ 2 * n = omega (arith, framed.long) in
-          rw last (framed.ends ∙ sym (rw answer-length at (track-end answer)))
+          rw last (framed.ends ∙ sym (rw answer_length at (track_end answer)))
 
-  pub track-read : t ≡ answer_track answer
-  track-read =
-      let long : length (answer_track answer) ≡ length t = length-track answer ∙ rw answer-length (sym framed.long) in
-      ext_get_or 0 t (answer_track answer) (sym long) place-back
+  pub track_read : t ≡ answer_track answer
+  track_read =
+      let long : length (answer_track answer) ≡ length t = length_track answer ∙ rw answer_length (sym framed.long) in
+      ext_get_or 0 t (answer_track answer) (sym long) place_back
 
-  pub answer-read-is : Codable answer
-  answer-read-is =
+  pub answer_read_is : Codable answer
+  answer_read_is =
       record {
         bytes = λ k. below k (dec_lt k n);
-        least = rw answer-length framed.least;
-        most = rw answer-length framed.most;
+        least = rw answer_length framed.least;
+        most = rw answer_length framed.most;
       }
     where
       below : (k : ℕ) → Dec (k < n) → get_or answer k 0 < 256
-      below k (yes h) = rw (two-of k h) (omega (arith, four_bits_most (get_or t (1 + 2 * k) 0), four_bits_most (get_or t (1 + (2 * k + 1)) 0)))
+      below k (yes h) = rw (two_of k h) (omega (arith, four_bits_most (get_or t (1 + 2 * k) 0), four_bits_most (get_or t (1 + (2 * k + 1)) 0)))
       below k (no h) =
-          let none : get_or answer k 0 ≡ 0 = past k (omega (arith, answer-length)) in
+          let none : get_or answer k 0 ≡ 0 = past k (omega (arith, answer_length)) in
           omega arith
         where
           past : (k : ℕ) → length answer ≤ k → get_or answer k 0 ≡ 0

@@ -19,7 +19,7 @@ use Rattle.coil.specs.Read.{Codable, Framed, GoodBefore}
 use Rattle.coil.specs.Overlay.{overlay, on_coil, Answers, OfLength, AllAre, none, more, alike_at, FirstUnlike}
 use Rattle.coil.proofs.First.{First, first_from_lem}
 use Rattle.coil.proofs.Pairs.{pair_good, track_pair}
-use Rattle.coil.proofs.Framed.{pair_below, reading-clash}
+use Rattle.coil.proofs.Framed.{pair_below, reading_clash}
 use Rattle.coil.proofs.RoundTrip.{same_bits, bit_below, reading_of_track}
 use Rattle.coil.proofs.Union.{overlay_none, overlay_self, pair_overlay, greatest, framed_coil}
 
@@ -110,7 +110,7 @@ different n a rs (more p ps) (more l ls) differ = go (dec_lt k (8 * n))
           inside = h;
           alike_before = alike;
           unlike = unlike;
-          clash = reading-clash n k (on_coil (a ∷ rs)) framed h good (rw unlike at (pair k h));
+          clash = reading_clash n k (on_coil (a ∷ rs)) framed h good (rw unlike at (pair k h));
         }
     go (no h) = absurd (differ (all_alike n a rs p.bytes l ps ls (λ i g. alike i (omega arith))))
 

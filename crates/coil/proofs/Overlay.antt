@@ -11,7 +11,7 @@ use Rattle.coil.specs.Track.{end, answer_track}
 use Rattle.coil.specs.Decoder.{pair_at, a-clash, reading}
 use Rattle.coil.specs.Overlay.{on_coil, Answers, OfLength, AllAre, none, more, Overlays}
 use Rattle.coil.proofs.Pairs.{good_range, track_end_pair}
-use Rattle.coil.proofs.Framed.{Judged, all-good, clash-at, loss-at, judged, reading-clash}
+use Rattle.coil.proofs.Framed.{Judged, all-good, clash-at, loss-at, judged, reading_clash}
 use Rattle.coil.proofs.Flaws.{pair_in_lem}
 use Rattle.coil.proofs.Union.{pair_overlay, or_least_l, or_least_r, greatest, framed_coil, coil_not_lost}
 use Rattle.coil.proofs.OneLength.{identical, different, two}
@@ -46,7 +46,7 @@ any_lengths a rs ps differ = go (judged n t)
     go (all-good good) =
         let unlike = different n a rs ps (lengths_of_good n (a ∷ rs) (omega arith) (λ i h. (good_range (good i h)).1)) differ in
         (unlike.place, unlike.clash)
-    go (clash-at k h good e) = (k, reading-clash n k t (framed_coil a rs ps) h good e)
+    go (clash-at k h good e) = (k, reading_clash n k t (framed_coil a rs ps) h good e)
     go (loss-at k h good e) = absurd (omega (arith, coil_not_lost (a ∷ rs) ps k h))
 
 -- the last pair of the end is 00, and no other byte of a track has such a pair there

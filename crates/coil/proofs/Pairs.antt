@@ -53,21 +53,21 @@ good_range one_bit = (omega arith, omega arith)
 -- ---- start and end around them
 
 module _ (a : List ℕ) where
-  pub length-track : length (answer_track a) ≡ answer_track_length (length a)
+  pub length_track : length (answer_track a) ≡ answer_track_length (length a)
   unfolding answer_track
-  length-track = rw (length-append (pulses a) (end ∷ []), length_pulses a) (omega arith)
+  length_track = rw (length-append (pulses a) (end ∷ []), length_pulses a) (omega arith)
 
-  pub track-start : get_or (answer_track a) 0 0 ≡ start
+  pub track_start : get_or (answer_track a) 0 0 ≡ start
   unfolding answer_track
-  track-start = refl
+  track_start = refl
 
-  pub track-byte : (i : ℕ) → i < 2 * length a → get_or (answer_track a) (1 + i) 0 ≡ half (get_or a (i / 2) 0 / 16 ^ (i % 2))
+  pub track_byte : (i : ℕ) → i < 2 * length a → get_or (answer_track a) (1 + i) 0 ≡ half (get_or a (i / 2) 0 / 16 ^ (i % 2))
   unfolding answer_track
-  track-byte i h = rw (one-add i, get_or-append (pulses a) (end ∷ []) 0 i (rw (length_pulses a) h)) (pulses_byte a i h)
+  track_byte i h = rw (one-add i, get_or-append (pulses a) (end ∷ []) 0 i (rw (length_pulses a) h)) (pulses_byte a i h)
 
-  pub track-end : get_or (answer_track a) (1 + 2 * length a) 0 ≡ end
+  pub track_end : get_or (answer_track a) (1 + 2 * length a) 0 ≡ end
   unfolding answer_track
-  track-end = rw one-add (get_or_at (pulses a) end [] 0 (2 * length a) (length_pulses a))
+  track_end = rw one-add (get_or_at (pulses a) end [] 0 (2 * length a) (length_pulses a))
 
 -- ---- pair by pair
 
@@ -87,7 +87,7 @@ track_pair a i bs h =
     let byte : i / 4 / 2 ≡ i / 8 = omega arith in
     let side : i / 4 % 2 ≡ i % 8 / 4 = omega arith in
     let pair : i % 4 ≡ i % 8 % 4 = omega arith in
-    rw (track-byte a (i / 4) (omega arith), byte, side, pair) (byte_pair (get_or a (i / 8) 0) (i % 8) (bs (i / 8)) (omega arith))
+    rw (track_byte a (i / 4) (omega arith), byte, side, pair) (byte_pair (get_or a (i / 8) 0) (i % 8) (bs (i / 8)) (omega arith))
 
 -- the end's second pair is 11
 pub track_end_pair : (a : List ℕ) → pair_at (answer_track a) (8 * length a + 1) ≡ 3
@@ -95,4 +95,4 @@ unfolding pair_at
 track_end_pair a =
     let place : (8 * length a + 1) / 4 ≡ 2 * length a = omega arith in
     let pair : (8 * length a + 1) % 4 ≡ 1 = omega arith in
-    rw (place, pair, track-end a)
+    rw (place, pair, track_end a)

@@ -11,44 +11,44 @@ use Rattle.lent.specs.Bytes.{Bytes}
 use Rattle.frames.specs.Frame.{longest_answer}
 use Rattle.coil.specs.Decoder.{is_framed, bytes_in, bytes_from, Reading, an-answer, a-clash, a-loss, no-track, reading, number, written, DecodesAnswer}
 use Rattle.coil.specs.Read.{Framed, TrackReads, answer-read, clash_read, loss-read, none_read, Tells}
-use Rattle.coil.proofs.Framed.{Judged, all-good, clash-at, loss-at, judged, test_of_framed, framed_of_test, reading_answer, reading-clash, reading-loss}
-use Rattle.coil.proofs.DecodeWays.{decodes-reading}
-use Rattle.coil.proofs.Inverse.{track-read, answer-read-is}
+use Rattle.coil.proofs.Framed.{Judged, all-good, clash-at, loss-at, judged, test_of_framed, framed_of_test, reading_answer, reading_clash, reading_loss}
+use Rattle.coil.proofs.DecodeWays.{decodes_reading}
+use Rattle.coil.proofs.Inverse.{track_read, answer_read_is}
 use Rattle.coil.proofs.Unique.{coil_decode_unique}
 
 module _ (t found : List ℕ) (r : ℤ) (left : List ℕ) (room : longest_answer ≤ length found) (decodes : DecodesAnswer t found r left) where
   -- the answer and the buffer of what is read
-  told-as : (read : Reading) → reading t ≡ read → (r ≡ number read) × (left ≡ written read found)
-  told-as read is = coil_decode_unique decodes (decodes-reading t found room read is)
+  told_as : (read : Reading) → reading t ≡ read → (r ≡ number read) × (left ≡ written read found)
+  told_as read is = coil_decode_unique decodes (decodes_reading t found room read is)
 
-  by-pairs : (n : ℕ) → Bytes t → Framed n t → Judged n t → TrackReads t found r left
+  by_pairs : (n : ℕ) → Bytes t → Framed n t → Judged n t → TrackReads t found r left
   unfolding number written
-  by-pairs n bytes framed (all-good good) =
-      let result = told-as (an-answer (bytes_from t 0 n)) (reading_answer n t framed good) in
-      answer-read (bytes_from t 0 n) (answer-read-is n t bytes framed good) (track-read n t bytes framed good) (rw zero-add at result.0) result.1
-  by-pairs n bytes framed (clash-at k h good pair) =
-      let result = told-as (a-clash k) (reading-clash n k t framed h good pair) in
+  by_pairs n bytes framed (all-good good) =
+      let result = told_as (an-answer (bytes_from t 0 n)) (reading_answer n t framed good) in
+      answer-read (bytes_from t 0 n) (answer_read_is n t bytes framed good) (track_read n t bytes framed good) (rw zero-add at result.0) result.1
+  by_pairs n bytes framed (clash-at k h good pair) =
+      let result = told_as (a-clash k) (reading_clash n k t framed h good pair) in
       clash_read n k framed h good pair result.0 result.1
-  by-pairs n bytes framed (loss-at k h good pair) =
-      let result = told-as (a-loss k) (reading-loss n k t framed h good pair) in
+  by_pairs n bytes framed (loss-at k h good pair) =
+      let result = told_as (a-loss k) (reading_loss n k t framed h good pair) in
       loss-read n k framed h good pair result.0 result.1
 
-  pub what-is-read : Bytes t → TrackReads t found r left
+  pub what_is_read : Bytes t → TrackReads t found r left
   unfolding reading number written
-  what-is-read bytes = go (is_framed t) refl
+  what_is_read bytes = go (is_framed t) refl
     where
       go : (b : Bool) → is_framed t ≡ b → TrackReads t found r left
-      go true e = by-pairs (bytes_in t) bytes (framed_of_test t e) (judged (bytes_in t) t)
+      go true e = by_pairs (bytes_in t) bytes (framed_of_test t e) (judged (bytes_in t) t)
       go false e =
-          let result = told-as no-track (rw e) in
+          let result = told_as no-track (rw e) in
           none_read (λ n framed. false≢true (sym e ∙ test_of_framed n t framed)) result.0 result.1
 
-  pub what-is-told : Tells t found r left
+  pub what_is_told : Tells t found r left
   unfolding number written
-  what-is-told =
+  what_is_told =
       record {
-        of_answer = λ answer is. rw zero-add at (told-as (an-answer answer) is);
-        of_clash = λ k is. told-as (a-clash k) is;
-        of_loss = λ k is. told-as (a-loss k) is;
-        of_none = λ is. told-as no-track is;
+        of_answer = λ answer is. rw zero-add at (told_as (an-answer answer) is);
+        of_clash = λ k is. told_as (a-clash k) is;
+        of_loss = λ k is. told_as (a-loss k) is;
+        of_none = λ is. told_as no-track is;
       }

@@ -14,7 +14,7 @@ use Rattle.lent.proofs.Every.{every, every_at}
 use Rattle.coil.specs.Track.{bit, pair_of, answer_track}
 use Rattle.coil.specs.Decoder.{pair_at, bit_at, byte_at, bytes_from, an-answer, reading}
 use Rattle.coil.specs.Read.{Codable, Framed}
-use Rattle.coil.proofs.Pairs.{length-track, track-start, track-end, pair_good, track_pair}
+use Rattle.coil.proofs.Pairs.{length_track, track_start, track_end, pair_good, track_pair}
 use Rattle.coil.proofs.Framed.{reading_answer}
 
 -- ---- a byte is joined from its bits
@@ -101,7 +101,7 @@ reading_of_pairs t a p f pairs =
     (bytes_from_are t a 0 (λ j h. rw zero-add (byte_of_pairs t a j (p.bytes j) (λ k g. pairs (8 * j + k) (omega arith)))))
 
 pub framed_track : (a : List ℕ) → Codable a → Framed (length a) (answer_track a)
-framed_track a p = record { least = p.least; most = p.most; long = length-track a; starts = track-start a; ends = track-end a }
+framed_track a p = record { least = p.least; most = p.most; long = length_track a; starts = track_start a; ends = track_end a }
 
 pub reading_of_track : (a : List ℕ) → Codable a → reading (answer_track a) ≡ an-answer a
 reading_of_track a p = reading_of_pairs (answer_track a) a p (framed_track a p) (λ i h. track_pair a i p.bytes h)

@@ -45,73 +45,73 @@ pub record Forms (P : Deed → Type 0) (c : Card) (locks frame : List ℕ) : Typ
 
 module _ (P : Deed → Type 0) where
   -- by a test, either way
-  pub by-test : (b : Bool) (x y : Deed) → (b ≡ true → P x) → (b ≡ false → P y) → P (cond b x y)
-  by-test true x y p q = p refl
-  by-test false x y p q = q refl
+  pub by_test : (b : Bool) (x y : Deed) → (b ≡ true → P x) → (b ≡ false → P y) → P (cond b x y)
+  by_test true x y p q = p refl
+  by_test false x y p q = q refl
 
   module _ (c : Card) (locks frame : List ℕ) (h : Forms P c locks frame) where
-    by-command : (option : Bool) (at command : ℕ) → (command ≡ 0x21 → at + width command + c.size ≤ length frame) → P (commanded c locks option frame at command)
+    by_command : (option : Bool) (at command : ℕ) → (command ≡ 0x21 → at + width command + c.size ≤ length frame) → P (commanded c locks option frame at command)
     unfolding commanded
-    by-command option at command data-there =
-        by-test (eqb command 0x20) _ _ (λ e. h.reading option _ _) (λ e.
-        by-test (eqb command 0x21) _ _ (λ e. h.writing option _ 0 _ (omega (arith, data-there (eqb-true command 0x21 e)))) (λ e.
-        by-test (eqb command 0x22) _ _ (λ e. h.locking option _) (λ e.
-        by-test (eqb command 0x23) _ _ (λ e. h.reading option _ _) (λ e.
-        by-test (eqb command 0x25) _ _ (λ e. h.selects Selected) (λ e.
-        by-test (eqb command 0x26) _ _ (λ e. h.selects Ready) (λ e.
-        by-test (eqb command 0x27) _ _ (λ e. h.afi option at) (λ e.
-        by-test (eqb command 0x28) _ _ (λ e. h.afi_lock option) (λ e.
-        by-test (eqb command 0x29) _ _ (λ e. h.dsfid option at) (λ e.
-        by-test (eqb command 0x2a) _ _ (λ e. h.dsfid_lock option) (λ e.
-        by-test (eqb command 0x2b) _ _ (λ e. h.informs) (λ e.
+    by_command option at command data-there =
+        by_test (eqb command 0x20) _ _ (λ e. h.reading option _ _) (λ e.
+        by_test (eqb command 0x21) _ _ (λ e. h.writing option _ 0 _ (omega (arith, data-there (eqb-true command 0x21 e)))) (λ e.
+        by_test (eqb command 0x22) _ _ (λ e. h.locking option _) (λ e.
+        by_test (eqb command 0x23) _ _ (λ e. h.reading option _ _) (λ e.
+        by_test (eqb command 0x25) _ _ (λ e. h.selects Selected) (λ e.
+        by_test (eqb command 0x26) _ _ (λ e. h.selects Ready) (λ e.
+        by_test (eqb command 0x27) _ _ (λ e. h.afi option at) (λ e.
+        by_test (eqb command 0x28) _ _ (λ e. h.afi_lock option) (λ e.
+        by_test (eqb command 0x29) _ _ (λ e. h.dsfid option at) (λ e.
+        by_test (eqb command 0x2a) _ _ (λ e. h.dsfid_lock option) (λ e.
+        by_test (eqb command 0x2b) _ _ (λ e. h.informs) (λ e.
         h.status _ _)))))))))))
 
-    asked-21 : (at command : ℕ) → command ≡ 0x21 → body_asked frame at command c.size ≡ width command + c.size
+    asked_21 : (at command : ℕ) → command ≡ 0x21 → body_asked frame at command c.size ≡ width command + c.size
     unfolding body_asked
-    asked-21 at command e = rw e
+    asked_21 at command e = rw e
 
-    data-stands : (at command : ℕ) → eqb (body_length frame at) (body_asked frame at command c.size) ≡ true → command ≡ 0x21
+    data_stands : (at command : ℕ) → eqb (body_length frame at) (body_asked frame at command c.size) ≡ true → command ≡ 0x21
         → at + width command + c.size ≤ length frame
     unfolding body_length
-    data-stands at command e k =
+    data_stands at command e k =
         let n : length frame - (at + 2) ≡ width command + c.size =
-        eqb-true (length frame - (at + 2)) (body_asked frame at command c.size) e ∙ asked-21 at command k in
+        eqb-true (length frame - (at + 2)) (body_asked frame at command c.size) e ∙ asked_21 at command k in
         omega (arith, width_least command)
 
-    by-fault : (f : Flags) (at command : ℕ) → P (judged c locks f frame at command)
+    by_fault : (f : Flags) (at command : ℕ) → P (judged c locks f frame at command)
     unfolding judged
-    by-fault f at command =
-        by-test (is_listed command) _ _
-        (λ l. by-test (eqb (body_length frame at) (body_asked frame at command c.size)) _ _
-        (λ b. by-test (f.b7 && refuses_option command) _ _ (λ o. h.faulty 0x03) (λ o. by-command f.b7 at command (data-stands at command b)))
+    by_fault f at command =
+        by_test (is_listed command) _ _
+        (λ l. by_test (eqb (body_length frame at) (body_asked frame at command c.size)) _ _
+        (λ b. by_test (f.b7 && refuses_option command) _ _ (λ o. h.faulty 0x03) (λ o. by_command f.b7 at command (data_stands at command b)))
         (λ b. h.wrong_body (f.b7 && holds_answer command)))
         (λ l. h.faulty 0x01)
 
-    silent-either : (b : Bool) (m : Mode) → P (silent (cond b (in_mode m c) c))
-    silent-either true m = h.turns m
-    silent-either false m = h.silence
+    silent_either : (b : Bool) (m : Mode) → P (silent (cond b (in_mode m c) c))
+    silent_either true m = h.turns m
+    silent_either false m = h.silence
 
-    by-step : (f : Flags) (at : ℕ) → P (sorted c locks f frame at)
+    by_step : (f : Flags) (at : ℕ) → P (sorted c locks f frame at)
     unfolding sorted quieted
-    by-step f at =
-        by-test (eqb (get_or frame 1 0) 0x02) _ _ (λ e. silent-either (f.b6 && eqb (body_length frame at) 0) Quiet)
-        (λ e. by-test (eqb (get_or frame 1 0) 0x25 && not f.b6) _ _ (λ u. h.silence) (λ u. by-fault f at (get_or frame 1 0)))
+    by_step f at =
+        by_test (eqb (get_or frame 1 0) 0x02) _ _ (λ e. silent_either (f.b6 && eqb (body_length frame at) 0) Quiet)
+        (λ e. by_test (eqb (get_or frame 1 0) 0x25 && not f.b6) _ _ (λ u. h.silence) (λ u. by_fault f at (get_or frame 1 0)))
 
     by_address : (f : Flags) → P (requested c locks f frame)
     unfolding requested addressed unaddressed passed_by
     by_address f =
-        by-test f.b6 _ _
-        (λ a. by-test f.b5 _ _ (λ s. h.silence)
-        (λ s. by-test (ltb (length frame) 12) _ _ (λ l. h.silence)
-        (λ l. by-test (eqb (field_at frame 2 8) c.uid) _ _ (λ u. by-step f 10)
-        (λ u. silent-either (eqb (get_or frame 1 0) 0x25 && is_selected c.mode) Ready))))
-        (λ a. by-test (cond f.b5 (is_selected c.mode) (not (is_quiet c.mode))) _ _ (λ g. by-step f 2) (λ g. h.silence))
+        by_test f.b6 _ _
+        (λ a. by_test f.b5 _ _ (λ s. h.silence)
+        (λ s. by_test (ltb (length frame) 12) _ _ (λ l. h.silence)
+        (λ l. by_test (eqb (field_at frame 2 8) c.uid) _ _ (λ u. by_step f 10)
+        (λ u. silent_either (eqb (get_or frame 1 0) 0x25 && is_selected c.mode) Ready))))
+        (λ a. by_test (cond f.b5 (is_selected c.mode) (not (is_quiet c.mode))) _ _ (λ g. by_step f 2) (λ g. h.silence))
 
-  pub decided-forms : (card : Card) (locks frame : List ℕ) → Forms P (cleared card) locks frame → P (decided card locks frame)
+  pub decided_forms : (card : Card) (locks frame : List ℕ) → Forms P (cleared card) locks frame → P (decided card locks frame)
   unfolding decided
-  decided-forms card locks frame h =
+  decided_forms card locks frame h =
       let f : Flags = flags_of (get_or frame 0 0) in
-      by-test (is_sound frame) _ _
-      (λ s. by-test (f.b4 || f.b8) _ _ (λ z. h.silence)
-      (λ z. by-test f.b3 _ _ (λ i. h.inventory f) (λ i. by_address (cleared card) locks frame h f)))
+      by_test (is_sound frame) _ _
+      (λ s. by_test (f.b4 || f.b8) _ _ (λ z. h.silence)
+      (λ z. by_test f.b3 _ _ (λ i. h.inventory f) (λ i. by_address (cleared card) locks frame h f)))
       (λ s. h.silence)

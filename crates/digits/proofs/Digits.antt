@@ -64,11 +64,11 @@ unfolding has_form
 form_length [] [] h = absurd (h refl)
 form_length [] (f ∷ fs) h = refl
 form_length (b ∷ bs) [] h = refl
-form_length (b ∷ bs) (f ∷ fs) h = rw (← (form_length bs fs (λ e. h (ap suc e)))) (sym (and-false (fits b f)))
+form_length (b ∷ bs) (f ∷ fs) h = rw (← (form_length bs fs (λ e. h (ap suc e)))) (sym (and_false (fits b f)))
   where
-    and-false : (t : Bool) → (t && false) ≡ false
-    and-false true = refl
-    and-false false = refl
+    and_false : (t : Bool) → (t && false) ≡ false
+    and_false true = refl
+    and_false false = refl
 
 pub form_same : (text form : List ℕ) → has_form text form ≡ true → length text ≡ length form
 unfolding has_form

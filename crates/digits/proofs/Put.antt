@@ -54,13 +54,13 @@ module _ {bytes text left : List ℕ} {at : ℕ} {r : ℤ} (ok : mag r < 2 ^ 63)
   read_back = to_z-of_z w64 r (sfits_of ok) ∙ answer
 
   -- and cast to a usize
-  pub put-cast : T (non_neg (to_z w64 (of_z w64 r))) × Fits w64 (nat_abs (to_z w64 (of_z w64 r)))
-  put-cast =
+  pub put_cast : T (non_neg (to_z w64 (of_z w64 r))) × Fits w64 (nat_abs (to_z w64 (of_z w64 r)))
+  put_cast =
       let few : mag (pos (at + length bytes)) < 2 ^ 63 = rw answer at ok in
       rw read_back (tt, omega arith)
 
-  pub put-at : PutsAt at bytes text (nat_abs (to_z w64 (of_z w64 r))) left
-  put-at = record { next = ap nat_abs read_back; leaves = put_leaves_lem p h }
+  pub put_at : PutsAt at bytes text (nat_abs (to_z w64 (of_z w64 r))) left
+  put_at = record { next = ap nat_abs read_back; leaves = put_leaves_lem p h }
 
 -- ---- stores, the last byte first
 

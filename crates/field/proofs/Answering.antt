@@ -19,7 +19,7 @@ use Rattle.field.specs.Answering.{outcome_in, is_heard, HeardOnce}
 use Rattle.field.proofs.InTime.{calls, AtSlot}
 use Rattle.field.proofs.InStep.{self_follows}
 use Rattle.field.proofs.TagHeard.{stepped, request_reached, mark_reached}
-use Rattle.field.proofs.TagStepped.{stepped-at, stepped-told}
+use Rattle.field.proofs.TagStepped.{stepped_at, stepped_told}
 use Rattle.field.proofs.Callers.{slot_tail_lem}
 use Rattle.field.proofs.RowAsked.{walk_asked, sent_request}
 
@@ -43,7 +43,7 @@ in_step family room t o h zero g = (t.room, (request_in family room t o h, refl)
 in_step family room t o h (suc s) g =
     let earlier = in_step family room t o h s (omega arith) in
     let before : Tag = tag_after (outcome_in family room t s) in
-    let at : AtSlot family 0 0 s t before = rw earlier.1.0 (stepped-at family (first_round family s) t earlier.0 o earlier.1.1) in
+    let at : AtSlot family 0 0 s t before = rw earlier.1.0 (stepped_at family (first_round family s) t earlier.0 o earlier.1.1) in
     (before.room, (mark_reached family (first_round family (suc s)) s room t before (omega arith) (omega arith) refl (omega arith) o at, at.room))
 
 -- with no mask the slot is the lowest digit
@@ -61,6 +61,6 @@ pub card_heard_once : HeardOnce
 unfolding HeardOnce is_heard calls first_round started started_of remade whole_mask
 card_heard_once family room t o h s g =
     let stepped-in = in_step family room t o h s g in
-    rw (stepped-in.1.0, stepped-told family (first_round family s) t stepped-in.0)
+    rw (stepped-in.1.0, stepped_told family (first_round family s) t stepped-in.0)
     (told_heard (calls family (first_round family s) t.card)
     ∙ ap (λ (b : Bool). answers family t.card && b) (digit_called t.card.uid s g))

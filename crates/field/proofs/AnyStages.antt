@@ -16,7 +16,7 @@ use Rattle.walk.specs.Marks.{deepest}
 use Rattle.walk.specs.Record.{levels_of, most_rounds, is_running, is_accepted, remade, ended, at_next_slot, opened_at, opened}
 use Rattle.walk.specs.Hear.{ends_at_once, noted, turned, passed, walk_after}
 use Rattle.walk.proofs.Limits.{is_accepted_of_accepted}
-use Rattle.walk.proofs.Accepted.{ended-facts}
+use Rattle.walk.proofs.Accepted.{ended_facts}
 use Rattle.field.proofs.Ahead.{ahead}
 use Rattle.field.proofs.AnyReplies.{alone, Walks, Fits, Lists, ending_added, ending_walks, note_walks, next_walks, open_walks}
 use Rattle.field.proofs.Next.{noted_kept, noted_ending}
@@ -35,7 +35,7 @@ once w ls t g u =
 ends_with : {levels : ℕ} (n e t : ℕ) (w : Walk) (ls : List ℕ) → (e ≡ 0 → ⊥) → Walks levels w ls t → Stage levels n (ended e w) ls
 unfolding ended remade is_running
 ends_with n e t w ls h g =
-    rests (is_accepted_of_accepted (ended e w) (ended-facts w g.steady.accepted e)) (ne_eqb e 0 h) (once w ls t g) g.number
+    rests (is_accepted_of_accepted (ended e w) (ended_facts w g.steady.accepted e)) (ne_eqb e 0 h) (once w ls t g) g.number
 
 -- the next slot, the next round
 moves : {levels : ℕ} (n : ℕ) (x : Walk) (ls : List ℕ) → Walks levels x ls (suc x.slot) → x.slot < 15 → x.ending ≡ 0

@@ -30,7 +30,7 @@ use Rattle.play.specs.Refusal.{refusal}
 use Rattle.play.specs.Events.{replied, frame_event}
 use Rattle.play.specs.Examples.{presents}
 use Rattle.play.proofs.EventWays.{frame_served}
-use Rattle.play.proofs.ExampleRequests.{mask-taken, silence_served, presents_served}
+use Rattle.play.proofs.ExampleRequests.{mask_taken, silence_served, presents_served}
 use Rattle.field.specs.Field.{answers}
 use Rattle.field.specs.Families.{Calling, calling, took_part, passed_over}
 use Rattle.field.proofs.Requested.{card_answers}
@@ -100,39 +100,39 @@ module _ (radio n : ℕ) (mask : List ℕ) (r : radio < 4) (k : length mask ≡ 
     unfolding mask_bytes
     few = omega (arith, k, most_bits one n h)
 
-    calling-sound : is_sound (sealed (body one)) ≡ true
-    calling-sound = sound_of_short (body one) (omega arith) (omega (arith, few))
+    calling_sound : is_sound (sealed (body one)) ≡ true
+    calling_sound = sound_of_short (body one) (omega arith) (omega (arith, few))
 
-    calling-long : suc (suc (suc (suc (length (mask ++ check_bytes (body one)))))) ≡ 4 + mask_bytes n + 2
+    calling_long : suc (suc (suc (suc (length (mask ++ check_bytes (body one)))))) ≡ 4 + mask_bytes n + 2
     unfolding check_bytes
-    calling-long = omega (arith, k, length-append mask (check_bytes (body one)))
+    calling_long = omega (arith, k, length-append mask (check_bytes (body one)))
 
   -- a card that takes part
   unfoldable joining : Bool → Turn
   joining true = turn (cleared c) (present (fits_mask c.uid n (field_of mask % 2 ^ n)))
   joining false = turn (in_sequence (Running 0 n (field_of mask % 2 ^ n)) (cleared c)) (present (fits_slot c.uid n (field_of mask % 2 ^ n) 0))
 
-  calling-decided : (one : Bool) → n ≤ cond one 64 60 → (locks : List ℕ)
+  calling_decided : (one : Bool) → n ≤ cond one 64 60 → (locks : List ℕ)
       → decided c locks (sealed (body one))
       ≡ cond (not (is_quiet c.mode) && fits_family asked c.afi) (leaving (joining one)) (silent (cleared c))
   unfolding decided inventoried is_inventory takes_part joins length_place mask_limit mask_of total_length field_at sealed cleared remade joining
-  calling-decided true h locks =
+  calling_decided true h locks =
       let f : Read true (flags_of (0x34 + radio)) = flags_read true radio r in
-      rw (calling-sound true h, f.b3, f.b4, f.b5, f.b6, f.b7, f.b8, le-leb n 64 h, eq-eqb _ _ (calling-long true h), mask-taken n mask k (few true h), and-true (not (is_quiet c.mode)))
+      rw (calling_sound true h, f.b3, f.b4, f.b5, f.b6, f.b7, f.b8, le-leb n 64 h, eq-eqb _ _ (calling_long true h), mask_taken n mask k (few true h), and-true (not (is_quiet c.mode)))
       (either_leaves (not (is_quiet c.mode) && fits_family asked c.afi) _ (still (cleared c)))
-  calling-decided false h locks =
+  calling_decided false h locks =
       let f : Read false (flags_of (0x14 + radio)) = flags_read false radio r in
-      rw (calling-sound false h, f.b3, f.b4, f.b5, f.b6, f.b7, f.b8, le-leb n 60 h, eq-eqb _ _ (calling-long false h), mask-taken n mask k (few false h), and-true (not (is_quiet c.mode)))
+      rw (calling_sound false h, f.b3, f.b4, f.b5, f.b6, f.b7, f.b8, le-leb n 60 h, eq-eqb _ _ (calling_long false h), mask_taken n mask k (few false h), and-true (not (is_quiet c.mode)))
       (either_leaves (not (is_quiet c.mode) && fits_family asked c.afi) _ (still (cleared c)))
 
   -- its answer
-  joining-served : (one : Bool) (memory locks found : List ℕ)
+  joining_served : (one : Bool) (memory locks found : List ℕ)
       → replied (joining one).card memory locks (joining one).reply found
       ≡ cond one (presents (eqb (c.uid % 2 ^ n) (field_of mask % 2 ^ n)) (cleared c) memory locks found)
       (presents (eqb (c.uid % 2 ^ (n + 4)) (field_of mask % 2 ^ n)) (in_sequence (Running 0 n (field_of mask % 2 ^ n)) (cleared c)) memory locks found)
   unfolding joining fits_mask
-  joining-served true memory locks found = presents_served (cleared c) memory locks found _
-  joining-served false memory locks found =
+  joining_served true memory locks found = presents_served (cleared c) memory locks found _
+  joining_served false memory locks found =
       rw (slot_0 c.uid n (field_of mask % 2 ^ n) (mod-lt (field_of mask) (pow_pos n)))
       (presents_served (in_sequence (Running 0 n (field_of mask % 2 ^ n)) (cleared c)) memory locks found _)
 
@@ -140,10 +140,10 @@ module _ (radio n : ℕ) (mask : List ℕ) (r : radio < 4) (k : length mask ≡ 
 
 module _ (q : Calling) (asked : ℕ) (c : Card) (memory locks found : List ℕ) (served : refusal c (length memory) locks (length found) ≡ 0) where
   -- by the card's own tests
-  pub calling-served : (b : Bool) → (not (is_quiet c.mode) && fits_family asked c.afi) ≡ b
+  pub calling_served : (b : Bool) → (not (is_quiet c.mode) && fits_family asked c.afi) ≡ b
       → frame_event c (calling q asked) memory locks found ≡ cond b (took_part q c memory locks found) (passed_over c memory locks found)
   unfolding took_part passed_over mask_bytes
-  calling-served b e = go b (calling-decided q.radio q.bits q.mask q.radio_fits q.mask_fits asked c q.one q.bits_fit locks ∙ rw e)
+  calling_served b e = go b (calling_decided q.radio q.bits q.mask q.radio_fits q.mask_fits asked c q.one q.bits_fit locks ∙ rw e)
     where
       turned : Turn
       turned = joining q.radio q.bits q.mask q.radio_fits q.mask_fits asked c q.one
@@ -152,10 +152,10 @@ module _ (q : Calling) (asked : ℕ) (c : Card) (memory locks found : List ℕ) 
           → frame_event c (calling q asked) memory locks found ≡ cond b (took_part q c memory locks found) (passed_over c memory locks found)
       go true d =
           frame_served c memory locks found (calling q asked) served turned.card turned.reply d
-          ∙ joining-served q.radio q.bits q.mask q.radio_fits q.mask_fits asked c q.one memory locks found
+          ∙ joining_served q.radio q.bits q.mask q.radio_fits q.mask_fits asked c q.one memory locks found
       go false d = frame_served c memory locks found (calling q asked) served (cleared c) Silence d ∙ silence_served (cleared c) memory locks found
 
   -- so by Table 1
-  pub family-requested : asked < 256
+  pub family_requested : asked < 256
       → frame_event c (calling q asked) memory locks found ≡ cond (answers asked c) (took_part q c memory locks found) (passed_over c memory locks found)
-  family-requested h = calling-served (answers asked c) (card_answers asked h c)
+  family_requested h = calling_served (answers asked c) (card_answers asked h c)

@@ -25,7 +25,7 @@ use Rattle.field.proofs.Suited.{e0_suit}
 use Rattle.field.proofs.InTime.{AtSlot, Both, in_step}
 use Rattle.field.proofs.InTime as row
 use Rattle.field.proofs.PlayedSlot.{Brings, arrives_brings}
-use Rattle.field.proofs.Stages.{Stage, hears, rests, stage_start, stage-for-by}
+use Rattle.field.proofs.Stages.{Stage, hears, rests, stage_start, stage_for_by}
 
 -- ---- what becomes of the cards
 
@@ -133,7 +133,7 @@ stage_after_by : (air : List (List ℕ) → Arrival) (us : List ℕ) (levels fam
     → Stage levels family tags us n (played_for_by air n (fresh_of levels family list room tags))
 stage_after_by air us levels family tags list room least suits obey brings places fits n =
     subst (λ (k : ℕ). Stage levels family tags us k (played_for_by air n (fresh_of levels family list room tags))) (zero-add n)
-    (stage-for-by air us family tags n 0 (fresh_of levels family list room tags) obey brings suits
+    (stage_for_by air us family tags n 0 (fresh_of levels family list room tags) obey brings suits
     (stage_start levels family tags us list room least obey places fits))
 
 -- 01's air

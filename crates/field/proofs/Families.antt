@@ -17,7 +17,7 @@ use Rattle.field.specs.Demand.{AllObey, Demand3, Demand3Always}
 use Rattle.field.specs.Played.{played_for, fresh}
 use Rattle.field.specs.Found.{BeginE0}
 use Rattle.field.specs.Families.{Calling, ListensOf, Families}
-use Rattle.field.proofs.Calling.{calling-served}
+use Rattle.field.proofs.Calling.{calling_served}
 use Rattle.field.proofs.Demand3.{walk_of_a_field}
 
 -- with no mask, high rate and one subcarrier: flags 36 and 16
@@ -58,10 +58,10 @@ families =
       sixteen_slots = (unmasked false, refl);
       one_slot = (unmasked true, refl);
       a_31_listens = some_card;
-      asks_31 = λ q c memory locks found l own. calling-served q 0x30 c memory locks found l.served true (fits c 0x30 true l.heard (rw own));
-      asks_3f = λ q c memory locks found l own. calling-served q 0x30 c memory locks found l.served true (fits c 0x30 true l.heard (rw own));
-      asks_30 = λ q c memory locks found l own. calling-served q 0x30 c memory locks found l.served true (fits c 0x30 true l.heard (rw own));
-      not_41 = λ q c memory locks found l own. calling-served q 0x30 c memory locks found l.served false (fits c 0x30 false l.heard (rw own));
-      only_03 = λ q c memory locks found l. calling-served q 0x03 c memory locks found l.served _ (fits c 0x03 (eqb 0x03 c.afi) l.heard refl);
+      asks_31 = λ q c memory locks found l own. calling_served q 0x30 c memory locks found l.served true (fits c 0x30 true l.heard (rw own));
+      asks_3f = λ q c memory locks found l own. calling_served q 0x30 c memory locks found l.served true (fits c 0x30 true l.heard (rw own));
+      asks_30 = λ q c memory locks found l own. calling_served q 0x30 c memory locks found l.served true (fits c 0x30 true l.heard (rw own));
+      not_41 = λ q c memory locks found l own. calling_served q 0x30 c memory locks found l.served false (fits c 0x30 false l.heard (rw own));
+      only_03 = λ q c memory locks found l. calling_served q 0x03 c memory locks found l.served _ (fits c 0x03 (eqb 0x03 c.afi) l.heard refl);
       coarse_burrs = burrs_found;
     }

@@ -124,12 +124,12 @@ any_found us w list found =
       complete_e0 = begins;
       complete_found = λ e. subst (λ (xs : List ℕ). Found xs w list) (as_heard_same us (begins e)) found;
       foreign_twins = λ few foreign. found.alike few (λ different. foreign (different_begin us different));
-      foreign_ends = λ foreign other. twins-of (λ e. foreign (begins e)) other;
+      foreign_ends = λ foreign other. twins_of (λ e. foreign (begins e)) other;
       no_overrun = found.no_overrun;
     }
   where
-    twins-of : (w.ending ≡ complete → ⊥) → (w.ending ≡ full → ⊥) → w.ending ≡ twins
-    twins-of a b = omega (arith, found.no_overrun, eqb-false w.ending 0 found.ends, a, b)
+    twins_of : (w.ending ≡ complete → ⊥) → (w.ending ≡ full → ⊥) → w.ending ≡ twins
+    twins_of a b = omega (arith, found.no_overrun, eqb-false w.ending 0 found.ends, a, b)
 
 pub walk_of_any_uids : AnyUids
 unfolding AnyUids

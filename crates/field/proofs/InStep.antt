@@ -13,7 +13,7 @@ use Rattle.card.specs.Record.{sequence_fits, held_fits, is_accepted, remade, cle
 use Rattle.card.proofs.Accepted.{tests_of}
 use Rattle.play.specs.Refusal.{lengths_fit, locks_fit, room_asked, room_fits, refusal}
 use Rattle.play.specs.Answer.{presence}
-use Rattle.play.proofs.Refusals.{Passes, passes_of, refusal-none}
+use Rattle.play.proofs.Refusals.{Passes, passes_of, refusal_none}
 use Rattle.play.proofs.Room.{room_of}
 use Rattle.walk.specs.Record.{mask_length}
 use Rattle.play.specs.Life.{Tag}
@@ -36,7 +36,7 @@ pub served_same : (c card : Card) (memory : ℕ) (locks : List ℕ) (room : ℕ)
 unfolding lengths_fit room_fits room_asked
 served_same c card memory locks room a b accepted e =
     let p : Passes c memory locks room = passes_of c memory locks room e in
-    refusal-none card memory locks room
+    refusal_none card memory locks room
     (record { accepted = accepted; lengths = rw (a, b) p.lengths; marks = p.marks; space = rw (a, b) p.space })
 
 -- a card of one byte, not locked, is served

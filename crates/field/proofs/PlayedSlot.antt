@@ -51,10 +51,10 @@ pub record SlotPlayedOf (us : List ℕ) (family : ℕ) (tags₀ : List Tag) (p q
 
 module _ (air : List (List ℕ) → Arrival) (us : List ℕ) where
   -- by the walk's own family
-  own-arrives : (tags₀ : List Tag) (w : Walk) (room : List ℕ) (ts : List Tag) → AllObey tags₀ → Brings air (length w.marks) us w.family tags₀
+  own_arrives : (tags₀ : List Tag) (w : Walk) (room : List ℕ) (ts : List Tag) → AllObey tags₀ → Brings air (length w.marks) us w.family tags₀
       → is_accepted w ≡ true → w.level < 16 → is_running w ≡ true → 14 ≤ length room → Before w.family w.level (whole_mask w) w.slot tags₀ ts
       → Arrived air us w.family tags₀ w room ts
-  own-arrives tags₀ w room ts obey brings accepted level running fits before =
+  own_arrives tags₀ w room ts obey brings accepted level running fits before =
       let within : Accepted w = accepted_of_is_accepted w accepted in
       let hears = row_hears w tags₀ ts room obey within level running before in
       let asked = walk_asked w room accepted fits in
@@ -65,23 +65,23 @@ module _ (air : List (List ℕ) → Arrival) (us : List ℕ) where
       }
 
   -- what arrives is judged to be what the UIDs bring
-  pub slot-arrives : (family : ℕ) (tags₀ : List Tag) (w : Walk) (room : List ℕ) (ts : List Tag) → AllObey tags₀
+  pub slot_arrives : (family : ℕ) (tags₀ : List Tag) (w : Walk) (room : List ℕ) (ts : List Tag) → AllObey tags₀
       → Brings air (length w.marks) us family tags₀
       → is_accepted w ≡ true → w.level < 16 → is_running w ≡ true → w.family ≡ family → 14 ≤ length room
       → Before family w.level (whole_mask w) w.slot tags₀ ts → Arrived air us family tags₀ w room ts
-  slot-arrives family tags₀ w room ts obey brings accepted level running same fits before =
+  slot_arrives family tags₀ w room ts obey brings accepted level running same fits before =
       subst (λ (f : ℕ). Arrived air us f tags₀ w room ts) same
-      (own-arrives tags₀ w room ts obey (subst⁻¹ (λ (f : ℕ). Brings air (length w.marks) us f tags₀) same brings) accepted level running fits
+      (own_arrives tags₀ w room ts obey (subst⁻¹ (λ (f : ℕ). Brings air (length w.marks) us f tags₀) same brings) accepted level running fits
       (subst⁻¹ (λ (f : ℕ). Before f w.level (whole_mask w) w.slot tags₀ ts) same before))
 
-  pub slot-played-by : (family : ℕ) (tags₀ : List Tag) (p : Play) → AllObey tags₀ → Brings air (length p.walk.marks) us family tags₀
+  pub slot_played_by_lem : (family : ℕ) (tags₀ : List Tag) (p : Play) → AllObey tags₀ → Brings air (length p.walk.marks) us family tags₀
       → is_accepted p.walk ≡ true → p.walk.level < 16 → is_running p.walk ≡ true → p.walk.family ≡ family → 64 ≤ length p.list → 14 ≤ length p.room
       → Before family p.walk.level (whole_mask p.walk) p.walk.slot tags₀ p.tags → SlotPlayedOf us family tags₀ p (slot_played_by air p)
   unfolding slot_played_by
-  slot-played-by family tags₀ p obey brings accepted level running same places fits before =
+  slot_played_by_lem family tags₀ p obey brings accepted level running same places fits before =
       let w : Walk = p.walk in
       let a : Asking = asking w p.room in
-      let arrived = slot-arrives family tags₀ w p.room p.tags obey brings accepted level running same fits before in
+      let arrived = slot_arrives family tags₀ w p.room p.tags obey brings accepted level running same fits before in
       let h : Arrival = air (replies a.send a.room p.tags) in
       rw (walk_heard w h.kind h.bytes p.list accepted running places)
       (record {
@@ -129,7 +129,7 @@ pub slot_played_lem : (family : ℕ) (tags₀ : List Tag) (p : Play) → AllObey
     → is_accepted p.walk ≡ true → p.walk.level < 16 → is_running p.walk ≡ true → p.walk.family ≡ family → 64 ≤ length p.list → 14 ≤ length p.room
     → Before family p.walk.level (whole_mask p.walk) p.walk.slot tags₀ p.tags → SlotPlayed family tags₀ p (slot_played p)
 slot_played_lem family tags₀ p obey starts =
-    slot-played-by arrives (answering family tags₀) family tags₀ p obey (arrives_brings (length p.walk.marks) family tags₀ obey starts)
+    slot_played_by_lem arrives (answering family tags₀) family tags₀ p obey (arrives_brings (length p.walk.marks) family tags₀ obey starts)
 
 pub ended_played : (p : Play) → is_accepted p.walk ≡ true → is_running p.walk ≡ false → slot_played p ≡ p
 ended_played p = ended_played_by arrives p

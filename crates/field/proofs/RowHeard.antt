@@ -16,7 +16,7 @@ use Rattle.field.specs.Demand.{AllObey}
 use Rattle.field.specs.Demand as demand
 use Rattle.field.proofs.InTime.{calls, AtSlot, Both, none, more}
 use Rattle.field.proofs.TagHeard.{stepped}
-use Rattle.field.proofs.TagStepped.{stepped-at, stepped-told, stepped-bytes}
+use Rattle.field.proofs.TagStepped.{stepped_at, stepped_told, stepped_bytes}
 use Rattle.field.proofs.Callers.{callers, messages}
 
 module _ (family : ℕ) (w : Walk) (send : Send) (sent : List ℕ) where
@@ -26,7 +26,7 @@ module _ (family : ℕ) (w : Walk) (send : Send) (sent : List ℕ) where
     pub room : length t.room ≡ length t₀.room
 
   tag_at : (t₀ t : Tag) → Obeys t₀ → Hears t₀ t → AtSlot family w.level (whole_mask w) w.slot t₀ (tag_after (reached send sent t))
-  tag_at t₀ t o h = rw h.after (stepped-at family w t₀ t.room o h.room)
+  tag_at t₀ t o h = rw h.after (stepped_at family w t₀ t.room o h.room)
 
   pub row_at : (ts₀ ts : List Tag) → AllObey ts₀ → Both Hears ts₀ ts
       → Both (AtSlot family w.level (whole_mask w) w.slot) ts₀ (tags_after send sent ts)
@@ -42,10 +42,10 @@ module _ (family : ℕ) (w : Walk) (send : Send) (sent : List ℕ) where
       ≡ messages (cond b (t₀.card ∷ cs) cs)
   unfolding messages
   said t₀ found rs cs true e same =
-      let told : (stepped family w t₀ found).told ≡ 12 = stepped-told family w t₀ found ∙ ap (λ (b : Bool). cond b 12 0) e in
-      rw (told, stepped-bytes family w t₀ found e, same)
+      let told : (stepped family w t₀ found).told ≡ 12 = stepped_told family w t₀ found ∙ ap (λ (b : Bool). cond b 12 0) e in
+      rw (told, stepped_bytes family w t₀ found e, same)
   said t₀ found rs cs false e same =
-      let told : (stepped family w t₀ found).told ≡ 0 = stepped-told family w t₀ found ∙ ap (λ (b : Bool). cond b 12 0) e in
+      let told : (stepped family w t₀ found).told ≡ 0 = stepped_told family w t₀ found ∙ ap (λ (b : Bool). cond b 12 0) e in
       rw (told, same)
 
   pub row-replies : (ts₀ ts : List Tag) → Both Hears ts₀ ts → replies send sent ts ≡ messages (callers family w ts₀)

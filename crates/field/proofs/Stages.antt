@@ -14,7 +14,7 @@ use Rattle.walk.specs.Record.{whole_mask, is_running, is_accepted, started_of, s
 use Rattle.walk.specs.Hear.{has_place, walk_after, list_after}
 use Rattle.walk.proofs.HearWays.{place_below, place_none, places_after}
 use Rattle.walk.proofs.Limits.{is_accepted_of_accepted}
-use Rattle.walk.proofs.Accepted.{ended-facts}
+use Rattle.walk.proofs.Accepted.{ended_facts}
 use Rattle.play.specs.Life.{Tag}
 use Rattle.field.specs.Field.{Arrival, arrives, answering}
 use Rattle.field.specs.Played.{Play, slot_played_by, slot_played, played_for_by, played_for, fresh_of, fresh}
@@ -28,7 +28,7 @@ use Rattle.field.proofs.Called.{called, slot_of}
 use Rattle.field.proofs.Next.{Suits, Verdict, Kept, Next, moves, opens, stops}
 use Rattle.field.proofs.Steps.{slot_next}
 use Rattle.field.proofs.InTime.{AtSlot, Both, Before}
-use Rattle.field.proofs.PlayedSlot.{Brings, SlotPlayedOf, SlotPlayed, slot-played-by, ended_played_by, arrives_brings, at_slot_follows, follows_self}
+use Rattle.field.proofs.PlayedSlot.{Brings, SlotPlayedOf, SlotPlayed, slot_played_by_lem, ended_played_by, arrives_brings, at_slot_follows, follows_self}
 
 -- after n slots of a walk of so many levels over the cards tags, those that answer having the UIDs us; ls are the UIDs listed, Holds is what holds of
 -- where they stand, and with fewest of them or more a clean one may find no place
@@ -81,7 +81,7 @@ rest_of : {Holds : Type 0} {levels fewest : ℕ} (family : ℕ) (tags : List Tag
 unfolding ended remade whole_mask
 rest_of family tags us n w x w' ls room ts t e holds g k same verdict row =
     rests holds
-    (subst (λ (y : Walk). is_accepted y ≡ true) (sym same) (is_accepted_of_accepted (ended (suc e) x) (ended-facts x g.walks.steady.accepted (suc e))))
+    (subst (λ (y : Walk). is_accepted y ≡ true) (sym same) (is_accepted_of_accepted (ended (suc e) x) (ended_facts x g.walks.steady.accepted (suc e))))
     (subst (λ (y : Walk). is_running y ≡ false) (sym same) (ended_stops e x))
     verdict
     (subst (λ (y : Walk). Both (AtSlot family y.level (whole_mask y) y.slot) tags ts) (sym same) (row_kept family tags ts w x k row))
@@ -103,10 +103,10 @@ next_stage family tags us n w w' ls' room' ts' holds obey steady level h e f roo
 
 module _ (air : List (List ℕ) → Arrival) (us : List ℕ) where
   -- what a slot leaves of a walk that hears
-  pub slot-leaves-by : {levels : ℕ} (family : ℕ) (tags : List Tag) (p : Play) → Suits levels us → 64 ≤ length p.list
+  pub slot_leaves_by : {levels : ℕ} (family : ℕ) (tags : List Tag) (p : Play) → Suits levels us → 64 ≤ length p.list
       → Fixed levels us p.walk (listed p.walk p.list) p.walk.slot → p.walk.slot < 16 → SlotPlayedOf us family tags p (slot_played_by air p)
       → Next levels 64 us p.walk (slot_played_by air p).walk (listed (slot_played_by air p).walk (slot_played_by air p).list)
-  slot-leaves-by {levels} family tags p fit places g h played =
+  slot_leaves_by {levels} family tags p fit places g h played =
       let w : Walk = p.walk in
       let s : Slot = slot_of (called us w) in
       let left : List ℕ = list_after w s (has_place w) w.count p.list in
@@ -115,43 +115,43 @@ module _ (air : List (List ℕ) → Arrival) (us : List ℕ) where
       (slot_next 64 us w (listed w p.list) (listed (walk_after w s (has_place w)) left) (has_place w) fit h g (place_below w) (place_none w)
       (own_lists w p.list s places)))
 
-  pub stage-slot-by : {levels : ℕ} (family : ℕ) (tags : List Tag) (n : ℕ) (p : Play) → AllObey tags → Brings air levels us family tags → Suits levels us
+  pub stage_slot_by : {levels : ℕ} (family : ℕ) (tags : List Tag) (n : ℕ) (p : Play) → AllObey tags → Brings air levels us family tags → Suits levels us
       → Stage levels family tags us n p → Stage levels family tags us (suc n) (slot_played_by air p)
-  stage-slot-by {levels} family tags n p obey brings fit (hears places g h e f room count row) =
+  stage_slot_by {levels} family tags n p obey brings fit (hears places g h e f room count row) =
       let w : Walk = p.walk in
       let q : Play = slot_played_by air p in
       let ls : List ℕ = listed w p.list in
       let level : w.level < 16 = walks_level w ls w.slot fit.most g.walks in
       let played : SlotPlayedOf us family tags p q =
-      slot-played-by air us family tags p obey (subst⁻¹ (λ (k : ℕ). Brings air k us family tags) g.walks.marks_length brings) (walks_accepted w ls w.slot h g.walks) level (running_of w e) f places room row in
+      slot_played_by_lem air us family tags p obey (subst⁻¹ (λ (k : ℕ). Brings air k us family tags) g.walks.marks_length brings) (walks_accepted w ls w.slot h g.walks) level (running_of w e) f places room row in
       let stay : length q.list ≡ length p.list =
       ap length played.list ∙ places_after w (slot_of (called us w)) (has_place w) w.count p.list in
       next_stage family tags us n w q.walk (listed q.walk q.list) q.room q.tags (rw stay places) obey g.walks.steady level h e f
-      (rw played.room room) count played.tags (slot-leaves-by family tags p fit places g h played)
-  stage-slot-by {levels} family tags n p obey brings fit (rests places a r v row) =
+      (rw played.room room) count played.tags (slot_leaves_by family tags p fit places g h played)
+  stage_slot_by {levels} family tags n p obey brings fit (rests places a r v row) =
       subst (λ (q : Play). Stage levels family tags us (suc n) q) (sym (ended_played_by air p a r)) (rests places a r v row)
 
-  pub stage-for-by : {levels : ℕ} (family : ℕ) (tags : List Tag) (n m : ℕ) (p : Play) → AllObey tags → Brings air levels us family tags → Suits levels us
+  pub stage_for_by : {levels : ℕ} (family : ℕ) (tags : List Tag) (n m : ℕ) (p : Play) → AllObey tags → Brings air levels us family tags → Suits levels us
       → Stage levels family tags us m p → Stage levels family tags us (m + n) (played_for_by air n p)
   unfolding played_for_by
-  stage-for-by {levels} family tags zero m p obey brings fit s = subst (λ (k : ℕ). Stage levels family tags us k p) (omega arith) s
-  stage-for-by {levels} family tags (suc n) m p obey brings fit s =
+  stage_for_by {levels} family tags zero m p obey brings fit s = subst (λ (k : ℕ). Stage levels family tags us k p) (omega arith) s
+  stage_for_by {levels} family tags (suc n) m p obey brings fit s =
       subst (λ (k : ℕ). Stage levels family tags us k (played_for_by air n (slot_played_by air p))) (omega arith)
-      (stage-for-by family tags n (suc m) (slot_played_by air p) obey brings fit (stage-slot-by family tags m p obey brings fit s))
+      (stage_for_by family tags n (suc m) (slot_played_by air p) obey brings fit (stage_slot_by family tags m p obey brings fit s))
 
 -- ---- 01's air
 
 pub slot_leaves : {levels : ℕ} (family : ℕ) (tags : List Tag) (p : Play) → Suits levels (answering family tags) → 64 ≤ length p.list
     → Fixed levels (answering family tags) p.walk (listed p.walk p.list) p.walk.slot → p.walk.slot < 16 → SlotPlayed family tags p (slot_played p)
     → Next levels 64 (answering family tags) p.walk (slot_played p).walk (listed (slot_played p).walk (slot_played p).list)
-slot_leaves family tags p = slot-leaves-by arrives (answering family tags) family tags p
+slot_leaves family tags p = slot_leaves_by arrives (answering family tags) family tags p
 
 pub stage_slot : {levels : ℕ} (family : ℕ) (tags : List Tag) (n : ℕ) (p : Play) → AllObey tags → Suits levels (answering family tags)
     → Stage levels family tags (answering family tags) n p → Stage levels family tags (answering family tags) (suc n) (slot_played p)
 stage_slot {levels} family tags n p obey fit =
-    stage-slot-by arrives (answering family tags) family tags n p obey (arrives_brings levels family tags obey fit.starts) fit
+    stage_slot_by arrives (answering family tags) family tags n p obey (arrives_brings levels family tags obey fit.starts) fit
 
 pub stage_for : {levels : ℕ} (family : ℕ) (tags : List Tag) (n m : ℕ) (p : Play) → AllObey tags → Suits levels (answering family tags)
     → Stage levels family tags (answering family tags) m p → Stage levels family tags (answering family tags) (m + n) (played_for n p)
 stage_for {levels} family tags n m p obey fit =
-    stage-for-by arrives (answering family tags) family tags n m p obey (arrives_brings levels family tags obey fit.starts) fit
+    stage_for_by arrives (answering family tags) family tags n m p obey (arrives_brings levels family tags obey fit.starts) fit

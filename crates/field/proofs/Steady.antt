@@ -13,7 +13,7 @@ use Rattle.walk.specs.Marks.{with_mark, without_mark, lowest, deepest}
 use Rattle.walk.specs.Record.{most_rounds, mask_length, whole_mask, remade, started_of, no_marks, counted, marked, at_next_slot, opened_at, opened}
 use Rattle.walk.specs.Hear.{ends_at_once, noted}
 use Rattle.walk.proofs.Limits.{Accepted}
-use Rattle.walk.proofs.Accepted.{started_facts, noted-facts, next-slot-facts, opened-facts}
+use Rattle.walk.proofs.Accepted.{started_facts, noted_facts, next_slot_facts, opened_facts}
 use Rattle.field.proofs.Waiting.{wait, wait_none, wait_marked_slot, wait_level, mark_fits, unmark_fits, deepest_below, deepest_last}
 use Rattle.field.proofs.Levels.{no_mark, set_fits}
 
@@ -56,13 +56,13 @@ noted_steady w Clashed place few a e h =
     let new : ℕ = with_mark (get_or w.marks level 0) w.slot in
     let within : level < length w.marks = h.accepted.level in
     record {
-      accepted = noted-facts w h.accepted place few Clashed e;
+      accepted = noted_facts w h.accepted place few Clashed e;
       marks_fit = set_fits w.marks level new within (mark_fits (get_or w.marks level 0) w.slot (h.marks_fit level) a) h.marks_fit;
       none_ahead = λ s p q. wait_marked_slot w.marks level w.slot s within (λ e. absurd (omega arith)) ∙ h.none_ahead s (omega arith) q;
     }
 noted_steady w (Clean u) place few a e h =
     record {
-      accepted = noted-facts w h.accepted place few (Clean u) e;
+      accepted = noted_facts w h.accepted place few (Clean u) e;
       marks_fit = h.marks_fit;
       none_ahead = λ s p q. h.none_ahead s (omega arith) q;
     }
@@ -71,7 +71,7 @@ pub next_steady : (w : Walk) (t : ℕ) → w.slot < 15 → Steady w t → Steady
 unfolding at_next_slot remade
 next_steady w t a h =
     record {
-      accepted = next-slot-facts w h.accepted a;
+      accepted = next_slot_facts w h.accepted a;
       marks_fit = h.marks_fit;
       none_ahead = h.none_ahead;
     }
@@ -84,7 +84,7 @@ open_steady w j g r h =
     let new : ℕ = without_mark (get_or w.marks j 0) (lowest (get_or w.marks j 0)) in
     let within : j < length w.marks = deepest_below w.marks j g in
     record {
-      accepted = opened-facts w h.accepted j g r;
+      accepted = opened_facts w h.accepted j g r;
       marks_fit = set_fits w.marks j new within (unmark_fits (get_or w.marks j 0) (lowest (get_or w.marks j 0)) (h.marks_fit j)) h.marks_fit;
       none_ahead =
           λ i p q. wait_level w.marks j new (j + 1) i (λ e. absurd (omega arith))

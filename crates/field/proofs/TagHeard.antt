@@ -18,7 +18,7 @@ use Rattle.commands.specs.Frame.{leaving}
 use Rattle.play.specs.Refusal.{refusal}
 use Rattle.play.specs.Effects.{memory_after, locks_after}
 use Rattle.play.specs.Events.{Outcome, replied, carried_out, frame_event, mark_event}
-use Rattle.play.proofs.EventWays.{event-served}
+use Rattle.play.proofs.EventWays.{event_served}
 use Rattle.walk.specs.declared.Walk.{Walk}
 use Rattle.walk.specs.declared.Send.TheVariants.{Mark, Request}
 use Rattle.walk.specs.Record.{mask_length, whole_mask}
@@ -43,7 +43,7 @@ frame_heard : (c card : Card) (w : Walk) (memory locks found : List ℕ) → ref
     ≡ replied (in_step w.family w.level (whole_mask w) w.slot c) memory locks (present (calls w.family w c)) found
 unfolding frame_event carried_out memory_after locks_after
 frame_heard c card w memory locks found served same h g e =
-    event-served card memory locks found _ 0 (sym served) refl
+    event_served card memory locks found _ 0 (sym served) refl
     ∙ ap (λ (d : Deed). carried_out d (request w) memory locks found)
     (request_decided card locks w ∙ ap leaving (heard_cleared c card (request w) same ∙ request_heard c w h g e))
 
@@ -68,5 +68,5 @@ unfolding reached stepped mark_event
 mark_reached family w s sent t₀ t h g e f o a =
     let follows : Follows t₀ t = slot_follows family w.level (whole_mask w) s t₀ t h (omega arith) g o a in
     rw (a.memory, a.locks)
-    (event-served t.card t₀.memory t₀.locks t.room _ 0 (sym (follows_served t₀ t o follows)) refl
+    (event_served t.card t₀.memory t₀.locks t.room _ 0 (sym (follows_served t₀ t o follows)) refl
     ∙ ap (λ (u : Turn). replied u.card t₀.memory t₀.locks u.reply t.room) (ap marked a.card ∙ mark_heard family w s t₀.card e f))

@@ -72,23 +72,23 @@ module _ (family : ℕ) (tags : List Tag) (list room : List ℕ) (obey : AllObey
   stage n = stage_after 16 family tags list room (omega arith) (whole_suit family tags obey) obey places fits n
 
   -- a walk that hears has opened none; one that has ended is where it heard last
-  level-of : Different us → (n : ℕ) (p : Play) → Stage 16 family tags us n p → (is_running p.walk ≡ false → p.walk.level ≤ 13) → p.walk.level ≤ 13
-  level-of different n p (hears h g s e f r c b) rest = level_most us p.walk (listed p.walk p.list) p.walk.slot begin different g
-  level-of different n p (rests h a e v b) rest = rest e
+  level_of : Different us → (n : ℕ) (p : Play) → Stage 16 family tags us n p → (is_running p.walk ≡ false → p.walk.level ≤ 13) → p.walk.level ≤ 13
+  level_of different n p (hears h g s e f r c b) rest = level_most us p.walk (listed p.walk p.list) p.walk.slot begin different g
+  level_of different n p (rests h a e v b) rest = rest e
 
-  level-after : Different us → (n : ℕ) → (played_for n start).walk.level ≤ 13
+  level_after : Different us → (n : ℕ) → (played_for n start).walk.level ≤ 13
   unfolding played_for_by fresh_of started_of
-  level-after different zero = omega arith
-  level-after different (suc n) =
+  level_after different zero = omega arith
+  level_after different (suc n) =
       let p : Play = played_for n start in
       let last = played_last n start in
-      level-of different (suc n) (played_for (suc n) start) (stage (suc n))
+      level_of different (suc n) (played_for (suc n) start) (stage (suc n))
       (λ e.
       let same : (slot_played p).walk.level ≡ p.walk.level = ended_level p (ap (λ (q : Play). is_running q.walk) (sym last) ∙ e) in
-      omega (arith, ap (λ (q : Play). q.walk.level) last, same, level-after different n))
+      omega (arith, ap (λ (q : Play). q.walk.level) last, same, level_after different n))
 
   too_many : (m : ℕ) → (played_for m start).walk.ending ≡ complete → (n : ℕ) → (played_for n start).walk.level ≤ 13
-  too_many m end n = level-after (complete_different 16 family tags us m (played_for m start) (stage m) end) n
+  too_many m end n = level_after (complete_different 16 family tags us m (played_for m start) (stage m) end) n
 
 pub two_levels_too_many : TwoLevelsTooMany
 unfolding TwoLevelsTooMany

@@ -59,19 +59,19 @@ module _ (family : ℕ) (tags : List Tag) (obey : AllObey tags) (fit : Suits lev
   abbrev us : List ℕ
   us = answering family tags
 
-  slot-alike : (m : ℕ) (p : Play) → Stage levels family tags us m p → slot_played (bench_of p) ≡ bench_of (field.slot_played p)
+  slot_alike : (m : ℕ) (p : Play) → Stage levels family tags us m p → slot_played (bench_of p) ≡ bench_of (field.slot_played p)
   unfolding played_for field.played_for_by
-  slot-alike m p s = played_alike family tags 1 m p obey fit s
+  slot_alike m p s = played_alike family tags 1 m p obey fit s
 
-  slot-stands : (m : ℕ) (p : Play) → Stage levels family tags us m p → stand_of (field.slot_played p) ≡ stood us (stand_of p)
+  slot_stands : (m : ℕ) (p : Play) → Stage levels family tags us m p → stand_of (field.slot_played p) ≡ stood us (stand_of p)
   unfolding field.played_for_by stood_for
-  slot-stands m p s = played_stood family tags 1 m p obey fit s
+  slot_stands m p s = played_stood family tags 1 m p obey fit s
 
-  more-drawn : (n m : ℕ) (p : Play) → Stage levels family tags us m p
+  more_drawn : (n m : ℕ) (p : Play) → Stage levels family tags us m p
       → drawn_for n (bench_of (field.slot_played p)) ≡ over_uids us n (stand_of (field.slot_played p))
       → drawn_for (suc n) (bench_of p) ≡ over_uids us (suc n) (stand_of p)
   unfolding drawn_for over_uids signed slot_drawn bench_of
-  more-drawn n m p (hears places g h e f room count row) later =
+  more_drawn n m p (hears places g h e f room count row) later =
       let w : Walk = p.walk in
       let ls : List ℕ = listed w p.list in
       let s : Stage levels family tags us m p = hears places g h e f room count row in
@@ -79,17 +79,17 @@ module _ (family : ℕ) (tags : List Tag) (obey : AllObey tags) (fit : Suits lev
       let is : sign (row_air w still_air (cards p.tags)) ≡ sign_for (length (called us w)) =
       hears_signed family tags p obey (walks_accepted w ls w.slot h g.walks) (walks_level w ls w.slot fit.most g.walks) running f row in
       rw running (
-      ap (λ (q : Played). signed w (sign (row_air w still_air (cards p.tags))) q.desk.walk ++ drawn_for n q) (slot-alike m p s)
+      ap (λ (q : Played). signed w (sign (row_air w still_air (cards p.tags))) q.desk.walk ++ drawn_for n q) (slot_alike m p s)
       ∙ ap (λ (l : List ℕ). signed w (sign (row_air w still_air (cards p.tags))) (field.slot_played p).walk ++ l) later
-      ∙ (λ i. signed w (is i) (slot-stands m p s i).walk ++ over_uids us n (slot-stands m p s i))
+      ∙ (λ i. signed w (is i) (slot_stands m p s i).walk ++ over_uids us n (slot_stands m p s i))
       )
-  more-drawn n m p (rests places a r v row) later = rw r
+  more_drawn n m p (rests places a r v row) later = rw r
 
-  pub drawn-over : (n m : ℕ) (p : Play) → Stage levels family tags us m p → drawn_for n (bench_of p) ≡ over_uids us n (stand_of p)
+  pub drawn_over : (n m : ℕ) (p : Play) → Stage levels family tags us m p → drawn_for n (bench_of p) ≡ over_uids us n (stand_of p)
   unfolding drawn_for over_uids
-  drawn-over zero m p s = refl
-  drawn-over (suc n) m p s =
-      more-drawn n m p s (drawn-over n (suc m) (field.slot_played p) (stage_slot family tags m p obey fit s))
+  drawn_over zero m p s = refl
+  drawn_over (suc n) m p s =
+      more_drawn n m p s (drawn_over n (suc m) (field.slot_played p) (stage_slot family tags m p obey fit s))
 
 -- ---- for the bench's cards
 
@@ -104,6 +104,6 @@ bench_drawn us begin n =
     let tags : List Tag = tags_of us in
     let obey : AllObey tags = tags_obey us begin in
     ap (drawn_for n) (bench_start us begin)
-    ∙ drawn-over 256 tags obey (tags_suit us begin) n 0 (fresh_field us)
+    ∙ drawn_over 256 tags obey (tags_suit us begin) n 0 (fresh_field us)
     (stage_fresh 256 tags (answering 256 tags) no_uids no_bytes obey (omega arith) (omega arith))
     ∙ ap (λ (vs : List ℕ). over_uids vs n (record { walk = started 256; list = no_uids })) (tags_answer us)

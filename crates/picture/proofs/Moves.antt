@@ -31,16 +31,16 @@ by_test true w x y p q = p refl
 by_test false w x y p q = q refl
 
 module _ (w : Walk) (inside : w.slot ≤ 15) where
-  turned-moves : (n : ℕ) → w.slot ≡ 15 → Moves w (turned w n)
+  turned_moves : (n : ℕ) → w.slot ≡ 15 → Moves w (turned w n)
   unfolding turned ended opened opened_at remade is_running
-  turned-moves zero last = stops refl
-  turned-moves (suc j) last = by_test (ltb w.rounds (most_rounds (levels_of w))) w _ _ (λ e. opens last refl refl) (λ e. stops refl)
+  turned_moves zero last = stops refl
+  turned_moves (suc j) last = by_test (ltb w.rounds (most_rounds (levels_of w))) w _ _ (λ e. opens last refl refl) (λ e. stops refl)
 
-  passed-moves : Moves w (passed w)
+  passed_moves : Moves w (passed w)
   unfolding passed at_next_slot remade
-  passed-moves =
+  passed_moves =
       by_test (ltb w.slot 15) w _ _ (λ e. steps (ltb-true w.slot 15 e) refl refl)
-      (λ e. let past : 15 ≤ w.slot = ltb-false w.slot 15 e in turned-moves (deepest w.marks) (omega arith))
+      (λ e. let past : 15 ≤ w.slot = ltb-false w.slot 15 e in turned_moves (deepest w.marks) (omega arith))
 
 -- what is noted leaves slot and rounds
 alike : {x w next : Walk} → x.slot ≡ w.slot → x.rounds ≡ w.rounds → Moves x next → Moves w next
@@ -50,9 +50,9 @@ alike s r (opens h e f) = opens (sym s ∙ h) e (omega (arith, r, f))
 
 noted_moves : (w : Walk) (slot : Slot) → w.slot ≤ 15 → Moves w (passed (noted w slot))
 unfolding noted marked counted remade
-noted_moves w Silent h = passed-moves w h
-noted_moves w Clashed h = alike refl refl (passed-moves (marked w) h)
-noted_moves w (Clean uid) h = alike refl refl (passed-moves (counted w) h)
+noted_moves w Silent h = passed_moves w h
+noted_moves w Clashed h = alike refl refl (passed_moves (marked w) h)
+noted_moves w (Clean uid) h = alike refl refl (passed_moves (counted w) h)
 
 after_moves : (w : Walk) (slot : Slot) (place : Bool) → w.slot ≤ 15 → Moves w (walk_after w slot place)
 unfolding walk_after ended remade is_running

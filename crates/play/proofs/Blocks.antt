@@ -77,16 +77,16 @@ sofar_none memory locks size option first e = record { place = omega arith; leav
 
 module _ {memory locks : List ℕ} {size : ℕ} {option : Bool} {first : ℕ} {e : List ℕ} {i at : ℕ} {answer : List ℕ} where
   -- the next block has room
-  pub sofar-room : Sofar memory locks size option first e i at answer → (n room : ℕ) → i < n → 1 + n * (size + lead option) ≤ room
+  pub sofar_room : Sofar memory locks size option first e i at answer → (n room : ℕ) → i < n → 1 + n * (size + lead option) ≤ room
       → at + (size + lead option) ≤ room
-  sofar-room so n room h k = omega (arith, so.place, block_within i n (size + lead option) h)
+  sofar_room so n room h k = omega (arith, so.place, block_within i n (size + lead option) h)
 
   -- one block more
-  pub sofar-suc : {r : ℕ} {left : List ℕ} → Sofar memory locks size option first e i at answer
+  pub sofar_suc : {r : ℕ} {left : List ℕ} → Sofar memory locks size option first e i at answer
       → PutsAt at (block_read memory locks size option (first + i)) answer r left → (first + i) * size + size ≤ length memory
       → at + (size + lead option) ≤ length e → Sofar memory locks size option first e (i + 1) r left
   unfolding blocks_read
-  sofar-suc {r} {left} so puts stored h =
+  sofar_suc {r} {left} so puts stored h =
       let s : List ℕ = blocks_read memory locks size option first i in
       let v : List ℕ = block_read memory locks size option (first + i) in
       let before : length s ≡ i * (size + lead option) = length_blocks memory locks size option first i (omega arith) in

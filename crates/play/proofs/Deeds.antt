@@ -17,8 +17,8 @@ use Rattle.card.specs.Inventory.{inventoried}
 use Rattle.commands.specs.Frame.{decided}
 use Rattle.commands.specs.Request.{silent, fault, done, failed, is_locked, any_locked, reads, writes, locks_block, tells_locks}
 use Rattle.commands.specs.Request.{writes_afi, writes_dsfid, locks_afi, locks_dsfid}
-use Rattle.commands.proofs.Forms.{Forms, by-test, decided-forms}
-use Rattle.commands.proofs.Keeps.{decided-keeps}
+use Rattle.commands.proofs.Forms.{Forms, by_test, decided_forms}
+use Rattle.commands.proofs.Keeps.{decided_keeps}
 use Rattle.play.specs.Fits.{effect_fits, reply_fits, DeedFits}
 use Rattle.play.proofs.Kept.{self_kept, kept_changes}
 use Rattle.play.proofs.Brief.{brief_fits}
@@ -61,21 +61,21 @@ module _ (card : Card) (frame : List ℕ) where
   reads-inside : (option : Bool) (first n : ℕ) → Inside (reads c option first n)
   unfolding reads cleared remade effect_fits reply_fits
   reads-inside option first n =
-      by-test Inside (ltb (first + n) card.blocks) _ _
+      by_test Inside (ltb (first + n) card.blocks) _ _
       (λ e. record { effect = refl; reply = le-leb (first + (n + 1)) card.blocks (within first n card.blocks e) }) (λ e. fault-inside c 0x10)
 
   tells-inside : (first n : ℕ) → Inside (tells_locks c first n)
   unfolding tells_locks cleared remade effect_fits reply_fits
   tells-inside first n =
-      by-test Inside (ltb (first + n) card.blocks) _ _
+      by_test Inside (ltb (first + n) card.blocks) _ _
       (λ e. record { effect = refl; reply = le-leb (first + (n + 1)) card.blocks (within first n card.blocks e) }) (λ e. fault-inside c 0x10)
 
   writes-inside : (locks : List ℕ) (option : Bool) (first n place : ℕ) → place + (n + 1) * c.size ≤ length frame
       → Inside (writes c locks option first n place)
   unfolding writes cleared remade effect_fits
   writes-inside locks option first n place h =
-      by-test Inside (ltb (first + n) card.blocks) _ _
-      (λ e. by-test Inside (any_locked locks first (n + 1)) _ _ (λ l. failed-inside c option 0x12)
+      by_test Inside (ltb (first + n) card.blocks) _ _
+      (λ e. by_test Inside (any_locked locks first (n + 1)) _ _ (λ l. failed-inside c option 0x12)
       (λ l. done-inside c option (Write first (n + 1) place)
       (rw (
         le-leb (first + (n + 1)) card.blocks (within first n card.blocks e),
@@ -86,14 +86,14 @@ module _ (card : Card) (frame : List ℕ) where
   locks-inside : (locks : List ℕ) (option : Bool) (block : ℕ) → Inside (locks_block c locks option block)
   unfolding locks_block cleared remade effect_fits
   locks-inside locks option block =
-      by-test Inside (ltb block card.blocks) _ _
-      (λ e. by-test Inside (is_locked locks block) _ _ (λ l. failed-inside c option 0x11) (λ l. done-inside c option (Lock block) e))
+      by_test Inside (ltb block card.blocks) _ _
+      (λ e. by_test Inside (is_locked locks block) _ _ (λ l. failed-inside c option 0x11) (λ l. done-inside c option (Lock block) e))
       (λ e. failed-inside c option 0x10)
 
   -- AFI and DSFID, written or locked
   alters-inside : (b option : Bool) (x : Card) (code : ℕ) → Inside (cond b (failed option c code) (done option x Leave))
   unfolding effect_fits
-  alters-inside b option x code = by-test Inside b _ _ (λ l. failed-inside c option code) (λ l. done-inside x option Leave refl)
+  alters-inside b option x code = by_test Inside b _ _ (λ l. failed-inside c option code) (λ l. done-inside x option Leave refl)
 
   forms-inside : (locks : List ℕ) → Forms Inside c locks frame
   unfolding effect_fits reply_fits writes_afi locks_afi writes_dsfid locks_dsfid
@@ -118,9 +118,9 @@ module _ (card : Card) (frame : List ℕ) where
 
 pub decided_fits : (card : Card) (locks frame : List ℕ) → DeedFits card frame (decided card locks frame)
 decided_fits card locks frame =
-    let inside : Inside card frame (decided card locks frame) = decided-forms (Inside card frame) card locks frame (forms-inside card frame locks) in
+    let inside : Inside card frame (decided card locks frame) = decided_forms (Inside card frame) card locks frame (forms-inside card frame locks) in
     record {
-      kept = decided-keeps (kept_changes card frame) card (self_kept card) locks;
+      kept = decided_keeps (kept_changes card frame) card (self_kept card) locks;
       effect = inside.effect;
       reply = inside.reply;
     }

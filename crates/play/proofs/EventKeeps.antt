@@ -8,9 +8,9 @@ use borrow.Author.Tests.{eqb-true}
 use lib.Dec.{eqb}
 use lib.ListN.{length}
 use Rattle.card.specs.declared.Card.{Card}
-use Rattle.card.proofs.Changes.{Changes, off-keeps, marked-keeps}
+use Rattle.card.proofs.Changes.{Changes, off_keeps, marked_keeps}
 use Rattle.card.proofs.Accepted.{tests_of}
-use Rattle.commands.proofs.Keeps.{decided-keeps}
+use Rattle.commands.proofs.Keeps.{decided_keeps}
 use Rattle.play.specs.Refusal.{refusal, Accepted}
 use Rattle.play.specs.Fits.{Kept}
 use Rattle.play.specs.Events.{Outcome, replied, unserved, event, carried_out, frame_event, mark_event, off_event}
@@ -29,9 +29,9 @@ module _ (c : Card) (memory locks found : List ℕ) where
       go true h = rw (eqb-true n 0 h) e
       go false h = refl
 
-  card-of : (Q : Card → Type 0) (served : Outcome) → Q c → (Accepted c memory locks found → Q served.card) → Q (event c memory locks found served).card
+  card_of_lem : (Q : Card → Type 0) (served : Outcome) → Q c → (Accepted c memory locks found → Q served.card) → Q (event c memory locks found served).card
   unfolding event unserved
-  card-of Q served q h = go (eqb n 0) refl
+  card_of_lem Q served q h = go (eqb n 0) refl
     where
       go : (b : Bool) → eqb n 0 ≡ b → Q (cond b served (unserved c memory locks found n)).card
       go true e = h (eqb-true n 0 e)
@@ -52,27 +52,27 @@ off_number c memory locks found = number_of c memory locks found _ refl
 -- ---- what each change keeps
 
 module _ {Q : Card → Type 0} where
-  pub frame-event-keeps : (c : Card) (frame memory locks found : List ℕ) → Changes Q frame → Q c → Q (frame_event c frame memory locks found).card
+  pub frame_event_keeps : (c : Card) (frame memory locks found : List ℕ) → Changes Q frame → Q c → Q (frame_event c frame memory locks found).card
   unfolding frame_event carried_out replied
-  frame-event-keeps c frame memory locks found change q = card-of c memory locks found Q _ q (λ a. decided-keeps change c q locks)
+  frame_event_keeps c frame memory locks found change q = card_of_lem c memory locks found Q _ q (λ a. decided_keeps change c q locks)
 
-  pub mark-event-keeps : (c : Card) (memory locks found : List ℕ) → Changes Q [] → Q c → Q (mark_event c memory locks found).card
+  pub mark_event_keeps : (c : Card) (memory locks found : List ℕ) → Changes Q [] → Q c → Q (mark_event c memory locks found).card
   unfolding mark_event replied
-  mark-event-keeps c memory locks found change q =
-      card-of c memory locks found Q _ q
-      (λ a. marked-keeps change c q (tests_of c (passes_of c (length memory) locks (length found) a).accepted).sequence)
+  mark_event_keeps c memory locks found change q =
+      card_of_lem c memory locks found Q _ q
+      (λ a. marked_keeps change c q (tests_of c (passes_of c (length memory) locks (length found) a).accepted).sequence)
 
-  pub off-event-keeps : (c : Card) (memory locks found : List ℕ) → Changes Q [] → Q c → Q (off_event c memory locks found).card
+  pub off_event_keeps : (c : Card) (memory locks found : List ℕ) → Changes Q [] → Q c → Q (off_event c memory locks found).card
   unfolding off_event replied
-  off-event-keeps c memory locks found change q = card-of c memory locks found Q _ q (λ a. off-keeps change c q)
+  off_event_keeps c memory locks found change q = card_of_lem c memory locks found Q _ q (λ a. off_keeps change c q)
 
 -- ---- shape, UID and IC reference
 
 pub frame_kept : (c : Card) (frame memory locks found : List ℕ) → Kept c (frame_event c frame memory locks found).card
-frame_kept c frame memory locks found = frame-event-keeps c frame memory locks found (kept_changes c frame) (self_kept c)
+frame_kept c frame memory locks found = frame_event_keeps c frame memory locks found (kept_changes c frame) (self_kept c)
 
 pub mark_kept : (c : Card) (memory locks found : List ℕ) → Kept c (mark_event c memory locks found).card
-mark_kept c memory locks found = mark-event-keeps c memory locks found (kept_changes c []) (self_kept c)
+mark_kept c memory locks found = mark_event_keeps c memory locks found (kept_changes c []) (self_kept c)
 
 pub off_kept : (c : Card) (memory locks found : List ℕ) → Kept c (off_event c memory locks found).card
-off_kept c memory locks found = off-event-keeps c memory locks found (kept_changes c []) (self_kept c)
+off_kept c memory locks found = off_event_keeps c memory locks found (kept_changes c []) (self_kept c)

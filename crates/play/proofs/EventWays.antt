@@ -32,50 +32,50 @@ use Rattle.play.specs.Answer.{reply_bytes}
 use Rattle.play.specs.Events.{length_told, answered, Outcome, replied, unserved, event, carried_out, frame_event, Leaves}
 
 module _ (c : Card) (memory locks found : List ℕ) (served : Outcome) where
-  pub event-refused : (n : ℕ) → n ≡ refusal c (length memory) locks (length found) → (n ≡ 0 → ⊥)
+  pub event_refused : (n : ℕ) → n ≡ refusal c (length memory) locks (length found) → (n ≡ 0 → ⊥)
       → event c memory locks found served ≡ unserved c memory locks found n
   unfolding event
-  event-refused n e h = rw (← e, ne_eqb n 0 h)
+  event_refused n e h = rw (← e, ne_eqb n 0 h)
 
-  pub event-served : (n : ℕ) → n ≡ refusal c (length memory) locks (length found) → n ≡ 0 → event c memory locks found served ≡ served
+  pub event_served : (n : ℕ) → n ≡ refusal c (length memory) locks (length found) → n ≡ 0 → event c memory locks found served ≡ served
   unfolding event
-  event-served n e h = rw (← e, eq-eqb n 0 h)
+  event_served n e h = rw (← e, eq-eqb n 0 h)
 
 -- a frame whose deed leaves memory and locks
 pub frame_served : (c : Card) (memory locks found frame : List ℕ) → refusal c (length memory) locks (length found) ≡ 0
     → (next : Card) (reply : Reply) → decided c locks frame ≡ deed next Leave reply
     → frame_event c frame memory locks found ≡ replied next memory locks reply found
 unfolding frame_event carried_out memory_after locks_after
-frame_served c memory locks found frame served next reply d = event-served c memory locks found _ _ refl served ∙ rw d
+frame_served c memory locks found frame served next reply d = event_served c memory locks found _ _ refl served ∙ rw d
 
 module _ (body found : List ℕ) where
-  pub told-silence : length body ≡ 0 → 0 ≡ length_told body
+  pub told_silence : length body ≡ 0 → 0 ≡ length_told body
   unfolding length_told
-  told-silence h = rw (eq-eqb (length body) 0 h)
+  told_silence h = rw (eq-eqb (length body) 0 h)
 
-  pub told-length : (length body ≡ 0 → ⊥) → length body + 2 ≡ length_told body
+  pub told_length : (length body ≡ 0 → ⊥) → length body + 2 ≡ length_told body
   unfolding length_told
-  told-length h = rw (ne_eqb (length body) 0 h)
+  told_length h = rw (ne_eqb (length body) 0 h)
 
-  pub answered-silence : length body ≡ 0 → found ≡ answered body found
+  pub answered_silence : length body ≡ 0 → found ≡ answered body found
   unfolding answered
-  answered-silence h = rw (eq-eqb (length body) 0 h)
+  answered_silence h = rw (eq-eqb (length body) 0 h)
 
-  pub answered-bytes : (length body ≡ 0 → ⊥) → over (sealed body) found ≡ answered body found
+  pub answered_bytes : (length body ≡ 0 → ⊥) → over (sealed body) found ≡ answered body found
   unfolding answered
-  answered-bytes h = rw (ne_eqb (length body) 0 h)
+  answered_bytes h = rw (ne_eqb (length body) 0 h)
 
 -- ---- what a call promises, way by way
 
 module _ (card : Card) (memory locks found : List ℕ) (served : Outcome) (n : ℕ) (told : n ≡ refusal card (length memory) locks (length found)) where
-  pub leaves-refused : (n ≡ 0 → ⊥) → Leaves (event card memory locks found served) (record { card = card; number = n; length = 0 }) memory locks found
+  pub leaves_refused : (n ≡ 0 → ⊥) → Leaves (event card memory locks found served) (record { card = card; number = n; length = 0 }) memory locks found
   unfolding unserved
-  leaves-refused h =
-      rw (event-refused card memory locks found served n told h)
+  leaves_refused h =
+      rw (event_refused card memory locks found served n told h)
       (record { card = refl; number = refl; told = refl; memory_left = refl; locks_left = refl; answer_left = refl })
 
-  pub leaves-served : (r : Served) (m l a : List ℕ) → n ≡ 0 → Leaves served r m l a → Leaves (event card memory locks found served) r m l a
-  leaves-served r m l a h p = rw (event-served card memory locks found served n told h) p
+  pub leaves_served : (r : Served) (m l a : List ℕ) → n ≡ 0 → Leaves served r m l a → Leaves (event card memory locks found served) r m l a
+  leaves_served r m l a h p = rw (event_served card memory locks found served n told h) p
 
 -- ---- a reply, silent or with its check
 
@@ -118,10 +118,10 @@ leaves_off card c memory locks found e =
     record {
       card = e;
       number = refl;
-      told = told-silence (reply_bytes (powered_off card) memory locks Silence) found none;
+      told = told_silence (reply_bytes (powered_off card) memory locks Silence) found none;
       memory_left = refl;
       locks_left = refl;
-      answer_left = answered-silence (reply_bytes (powered_off card) memory locks Silence) found none;
+      answer_left = answered_silence (reply_bytes (powered_off card) memory locks Silence) found none;
     }
 
 pub leaves_turn : (card : Card) (t : Turn) (memory locks found : List ℕ) {n : ℕ} {e : List ℕ} {r : ℕ} {a : List ℕ} → t ≡ marked card

@@ -23,7 +23,7 @@ use Rattle.play.specs.Events.{replied, frame_event}
 use Rattle.play.specs.Examples.{Listens, speech}
 use Rattle.play.proofs.Copy.{length_part}
 use Rattle.play.proofs.Answers.{length_information}
-use Rattle.play.proofs.EventWays.{frame_served, told-length, answered-bytes}
+use Rattle.play.proofs.EventWays.{frame_served, told_length, answered_bytes}
 use Rattle.play.proofs.ReadyFor.{ready_of}
 
 module _ (c : Card) (memory locks found : List ℕ) (listens : Listens c memory locks found) where
@@ -34,7 +34,7 @@ module _ (c : Card) (memory locks found : List ℕ) (listens : Listens c memory 
   unfolding replied speech
   spoken frame reply n bytes d r e some =
       frame_served c memory locks found frame listens.served (cleared c) reply d
-      ∙ rw (r, ← (told-length bytes found some), ← (answered-bytes bytes found some), e)
+      ∙ rw (r, ← (told_length bytes found some), ← (answered_bytes bytes found some), e)
 
   -- ---- what is decided
 
@@ -42,66 +42,66 @@ module _ (c : Card) (memory locks found : List ℕ) (listens : Listens c memory 
   abbrev flags : Bool → ℕ
   flags option = cond option 0x42 0x02
 
-  request-judged : (option : Bool) (command : ℕ) (body : List ℕ) → length body ≤ 8 → eqb command 0x02 ≡ false → eqb command 0x25 ≡ false
+  request_judged : (option : Bool) (command : ℕ) (body : List ℕ) → length body ≤ 8 → eqb command 0x02 ≡ false → eqb command 0x25 ≡ false
       → decided c locks (sealed (flags option ∷ command ∷ body))
       ≡ judged (cleared c) locks (flags_of (flags option)) (sealed (flags option ∷ command ∷ body)) 2 command
   unfolding decided requested unaddressed sorted flags_of sealed cleared remade
-  request-judged true command body few a b = rw (sound_of_short (0x42 ∷ command ∷ body) (omega arith) (omega arith), listens.heard, a, b)
-  request-judged false command body few a b = rw (sound_of_short (0x02 ∷ command ∷ body) (omega arith) (omega arith), listens.heard, a, b)
+  request_judged true command body few a b = rw (sound_of_short (0x42 ∷ command ∷ body) (omega arith) (omega arith), listens.heard, a, b)
+  request_judged false command body few a b = rw (sound_of_short (0x02 ∷ command ∷ body) (omega arith) (omega arith), listens.heard, a, b)
 
-  information-decided : decided c locks (sealed (0x02 ∷ 0x2b ∷ [])) ≡ deed (cleared c) Leave Information
+  information_decided : decided c locks (sealed (0x02 ∷ 0x2b ∷ [])) ≡ deed (cleared c) Leave Information
   unfolding judged commanded width is_listed body_asked refuses_option body_length field_at field_of flags_of sealed check_bytes
-  information-decided = request-judged false 0x2b [] (omega arith) refl refl
+  information_decided = request_judged false 0x2b [] (omega arith) refl refl
 
-  read-decided : (option : Bool) → c.blocks ≡ 32
+  read_decided : (option : Bool) → c.blocks ≡ 32
       → decided c locks (sealed (flags option ∷ 0x23 ∷ 0x1f ∷ 0x00 ∷ [])) ≡ deed (cleared c) Leave (Blocks 31 1 option)
   unfolding judged commanded reads width is_listed body_asked refuses_option body_length field_at field_of flags_of sealed check_bytes cleared remade
-  read-decided true b = request-judged true 0x23 (0x1f ∷ 0x00 ∷ []) (omega arith) refl refl ∙ rw b
-  read-decided false b = request-judged false 0x23 (0x1f ∷ 0x00 ∷ []) (omega arith) refl refl ∙ rw b
+  read_decided true b = request_judged true 0x23 (0x1f ∷ 0x00 ∷ []) (omega arith) refl refl ∙ rw b
+  read_decided false b = request_judged false 0x23 (0x1f ∷ 0x00 ∷ []) (omega arith) refl refl ∙ rw b
 
-  past-decided : c.blocks ≡ 32 → decided c locks (sealed (0x02 ∷ 0x23 ∷ 0x1f ∷ 0x01 ∷ [])) ≡ fault (cleared c) 0x10
+  past_decided : c.blocks ≡ 32 → decided c locks (sealed (0x02 ∷ 0x23 ∷ 0x1f ∷ 0x01 ∷ [])) ≡ fault (cleared c) 0x10
   unfolding judged commanded reads width is_listed body_asked refuses_option body_length field_at field_of flags_of sealed check_bytes cleared remade
-  past-decided b = request-judged false 0x23 (0x1f ∷ 0x01 ∷ []) (omega arith) refl refl ∙ rw b
+  past_decided b = request_judged false 0x23 (0x1f ∷ 0x01 ∷ []) (omega arith) refl refl ∙ rw b
 
   -- ---- 32 blocks of 4
 
   module _ (b : c.blocks ≡ 32) (z : c.size ≡ 4) where
-    block-long : length (take 4 (drop 124 memory)) ≡ 4
-    block-long = length_part 124 4 memory (omega (arith, rw (b, z) at (ready_of c (length memory) locks (length found) listens.served).stored))
+    block_long : length (take 4 (drop 124 memory)) ≡ 4
+    block_long = length_part 124 4 memory (omega (arith, rw (b, z) at (ready_of c (length memory) locks (length found) listens.served).stored))
 
-    information-bytes : reply_bytes (cleared c) memory locks Information
+    information_bytes : reply_bytes (cleared c) memory locks Information
         ≡ 0x00 ∷ 0x0f ∷ field_bytes 8 c.uid ++ c.dsfid ∷ c.afi ∷ 0x1f ∷ 0x03 ∷ c.ic_reference ∷ []
     unfolding reply_bytes information cleared remade
-    information-bytes = rw (b, z)
+    information_bytes = rw (b, z)
 
-    information-long : length (reply_bytes (cleared c) memory locks Information) ≡ 15
+    information_long : length (reply_bytes (cleared c) memory locks Information) ≡ 15
     unfolding reply_bytes
-    information-long = omega (arith, length_information (cleared c))
+    information_long = omega (arith, length_information (cleared c))
 
-    blocks-bytes : (option : Bool) → reply_bytes (cleared c) memory locks (Blocks 31 1 option) ≡ 0x00 ∷ block_read memory locks 4 option 31
+    blocks_bytes : (option : Bool) → reply_bytes (cleared c) memory locks (Blocks 31 1 option) ≡ 0x00 ∷ block_read memory locks 4 option 31
     unfolding reply_bytes blocks_read cleared remade
-    blocks-bytes option = rw z
+    blocks_bytes option = rw z
 
-    pub information-shown : frame_event c (sealed (0x02 ∷ 0x2b ∷ [])) memory locks found
+    pub information_shown : frame_event c (sealed (0x02 ∷ 0x2b ∷ [])) memory locks found
         ≡ speech (cleared c) memory locks found 17
         (0x00 ∷ 0x0f ∷ field_bytes 8 c.uid ++ c.dsfid ∷ c.afi ∷ 0x1f ∷ 0x03 ∷ c.ic_reference ∷ [])
-    information-shown =
-        let long = rw information-bytes at information-long in
-        spoken _ Information 17 _ information-decided information-bytes (omega (arith, long)) (λ e. omega (arith, long))
+    information_shown =
+        let long = rw information_bytes at information_long in
+        spoken _ Information 17 _ information_decided information_bytes (omega (arith, long)) (λ e. omega (arith, long))
 
-    pub last-read : frame_event c (sealed (0x02 ∷ 0x23 ∷ 0x1f ∷ 0x00 ∷ [])) memory locks found
+    pub last_read : frame_event c (sealed (0x02 ∷ 0x23 ∷ 0x1f ∷ 0x00 ∷ [])) memory locks found
         ≡ speech (cleared c) memory locks found 7 (0x00 ∷ take 4 (drop 124 memory))
     unfolding block_read block_of
-    last-read =
-        spoken _ (Blocks 31 1 false) 7 _ (read-decided false b) (blocks-bytes false) (omega (arith, block-long)) (λ e. omega arith)
+    last_read =
+        spoken _ (Blocks 31 1 false) 7 _ (read_decided false b) (blocks_bytes false) (omega (arith, block_long)) (λ e. omega arith)
 
-    pub last-read-with-lock : frame_event c (sealed (0x42 ∷ 0x23 ∷ 0x1f ∷ 0x00 ∷ [])) memory locks found
+    pub last_read_with_lock : frame_event c (sealed (0x42 ∷ 0x23 ∷ 0x1f ∷ 0x00 ∷ [])) memory locks found
         ≡ speech (cleared c) memory locks found 8 (0x00 ∷ get_or locks 31 0 ∷ take 4 (drop 124 memory))
     unfolding block_read block_of
-    last-read-with-lock =
-        spoken _ (Blocks 31 1 true) 8 _ (read-decided true b) (blocks-bytes true) (omega (arith, block-long)) (λ e. omega arith)
+    last_read_with_lock =
+        spoken _ (Blocks 31 1 true) 8 _ (read_decided true b) (blocks_bytes true) (omega (arith, block_long)) (λ e. omega arith)
 
-    pub past-last-refused : frame_event c (sealed (0x02 ∷ 0x23 ∷ 0x1f ∷ 0x01 ∷ [])) memory locks found
+    pub past_last_refused : frame_event c (sealed (0x02 ∷ 0x23 ∷ 0x1f ∷ 0x01 ∷ [])) memory locks found
         ≡ speech (cleared c) memory locks found 4 (0x01 ∷ 0x10 ∷ [])
     unfolding reply_bytes
-    past-last-refused = spoken _ (Error 0x10) 4 _ (past-decided b) refl refl (λ e. omega arith)
+    past_last_refused = spoken _ (Error 0x10) 4 _ (past_decided b) refl refl (λ e. omega arith)

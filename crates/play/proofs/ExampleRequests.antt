@@ -33,58 +33,58 @@ use Rattle.play.specs.Examples.{silence, speech, presents, in_slot, inventory}
 
 -- eight bytes of mask at most
 module _ (n : ℕ) (mask : List ℕ) (k : length mask ≡ mask_bytes n) (few : length mask ≤ 8) where
-  inventory-sound : is_sound (inventory n mask) ≡ true
-  inventory-sound = sound_of_short (0x06 ∷ 0x01 ∷ n ∷ mask) (omega arith) (omega arith)
+  inventory_sound : is_sound (inventory n mask) ≡ true
+  inventory_sound = sound_of_short (0x06 ∷ 0x01 ∷ n ∷ mask) (omega arith) (omega arith)
 
-  pub mask-taken : (rest : List ℕ) → take (min 8 (mask_bytes n)) (mask ++ rest) ≡ mask
-  mask-taken rest = take_at mask rest (min 8 (mask_bytes n)) (omega (arith, k, few))
+  pub mask_taken : (rest : List ℕ) → take (min 8 (mask_bytes n)) (mask ++ rest) ≡ mask
+  mask_taken rest = take_at mask rest (min 8 (mask_bytes n)) (omega (arith, k, few))
 
-  inventory-long : suc (suc (suc (length (mask ++ check_bytes (0x06 ∷ 0x01 ∷ n ∷ mask))))) ≡ 3 + mask_bytes n + 2
+  inventory_long : suc (suc (suc (length (mask ++ check_bytes (0x06 ∷ 0x01 ∷ n ∷ mask))))) ≡ 3 + mask_bytes n + 2
   unfolding check_bytes
-  inventory-long = omega (arith, k, length-append mask (check_bytes (0x06 ∷ 0x01 ∷ n ∷ mask)))
+  inventory_long = omega (arith, k, length-append mask (check_bytes (0x06 ∷ 0x01 ∷ n ∷ mask)))
 
   -- a mask length within the limit starts a sequence
-  pub inventory-taken : (c : Card) (locks : List ℕ) → is_quiet c.mode ≡ false → n ≤ 60
+  pub inventory_taken : (c : Card) (locks : List ℕ) → is_quiet c.mode ≡ false → n ≤ 60
       → decided c locks (inventory n mask)
       ≡ deed (in_sequence (Running 0 n (field_of mask % 2 ^ n)) (cleared c)) Leave (present (fits_slot c.uid n (field_of mask % 2 ^ n) 0))
   unfolding decided inventoried is_inventory takes_part joins flags_of length_place mask_limit mask_of total_length field_at sealed cleared remade
-  inventory-taken c locks heard h =
-      rw (inventory-sound, heard, le-leb n 60 h, eq-eqb _ _ inventory-long, mask-taken)
+  inventory_taken c locks heard h =
+      rw (inventory_sound, heard, le-leb n 60 h, eq-eqb _ _ inventory_long, mask_taken)
 
   -- and one past it silences
-  pub inventory-passed : (c : Card) (locks : List ℕ) → 60 < n → decided c locks (inventory n mask) ≡ silent (cleared c)
+  pub inventory_passed : (c : Card) (locks : List ℕ) → 60 < n → decided c locks (inventory n mask) ≡ silent (cleared c)
   unfolding decided inventoried is_inventory flags_of length_place mask_limit sealed
-  inventory-passed c locks h = rw (inventory-sound, lt-leb n 60 h, last-fails)
+  inventory_passed c locks h = rw (inventory_sound, lt-leb n 60 h, last_fails)
     where
-      last-fails : (a : Bool) → (a && false) ≡ false
-      last-fails true = refl
-      last-fails false = refl
+      last_fails : (a : Bool) → (a && false) ≡ false
+      last_fails true = refl
+      last_fails false = refl
 
 -- ---- BC FA and BC 0A
 
 padding_heard : (c : Card) → heard_inventory c (inventory 0x0c (0xbc ∷ 0xfa ∷ [])) ≡ heard_inventory c (inventory 0x0c (0xbc ∷ 0x0a ∷ []))
 unfolding heard_inventory inventoried is_inventory takes_part joins flags_of length_place mask_limit mask_of mask_bytes total_length field_at field_of sealed check_bytes
-padding_heard c = rw (inventory-sound 0x0c (0xbc ∷ 0xfa ∷ []) refl (omega arith), inventory-sound 0x0c (0xbc ∷ 0x0a ∷ []) refl (omega arith))
+padding_heard c = rw (inventory_sound 0x0c (0xbc ∷ 0xfa ∷ []) refl (omega arith), inventory_sound 0x0c (0xbc ∷ 0x0a ∷ []) refl (omega arith))
 
 -- an inventory request's frame is no matter to memory
 module _ (c : Card) (memory locks found : List ℕ) where
   abbrev turned : Turn → Outcome
   turned t = event c memory locks found (replied t.card memory locks t.reply found)
 
-  frame-turned : (frame : List ℕ) → (flags_of (get_or frame 0 0)).b3 ≡ true → frame_event c frame memory locks found ≡ turned (heard_inventory c frame)
+  frame_turned : (frame : List ℕ) → (flags_of (get_or frame 0 0)).b3 ≡ true → frame_event c frame memory locks found ≡ turned (heard_inventory c frame)
   unfolding frame_event carried_out memory_after locks_after
-  frame-turned frame e = rw (inventory_frame c locks frame e)
+  frame_turned frame e = rw (inventory_frame c locks frame e)
 
-  is-inventory : (mask : List ℕ) → (flags_of (get_or (inventory 0x0c mask) 0 0)).b3 ≡ true
+  is_inventory_lem : (mask : List ℕ) → (flags_of (get_or (inventory 0x0c mask) 0 0)).b3 ≡ true
   unfolding sealed flags_of
-  is-inventory mask = refl
+  is_inventory_lem mask = refl
 
-  pub padding-same : (s : ℕ)
+  pub padding_same : (s : ℕ)
       → in_slot c (inventory 0x0c (0xbc ∷ 0xfa ∷ [])) memory locks found s ≡ in_slot c (inventory 0x0c (0xbc ∷ 0x0a ∷ [])) memory locks found s
   unfolding in_slot
-  padding-same zero =
-      frame-turned _ (is-inventory (0xbc ∷ 0xfa ∷ [])) ∙ ap turned (padding_heard c) ∙ sym (frame-turned _ (is-inventory (0xbc ∷ 0x0a ∷ [])))
-  padding-same (suc s) = rw (padding-same s)
+  padding_same zero =
+      frame_turned _ (is_inventory_lem (0xbc ∷ 0xfa ∷ [])) ∙ ap turned (padding_heard c) ∙ sym (frame_turned _ (is_inventory_lem (0xbc ∷ 0x0a ∷ [])))
+  padding_same (suc s) = rw (padding_same s)
 
 -- ---- the answers on the calls
 

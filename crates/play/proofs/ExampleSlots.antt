@@ -26,8 +26,8 @@ use Rattle.card.specs.Mark.{marked, released, moved}
 use Rattle.play.specs.Refusal.{lengths_fit, locks_fit, room_asked, room_fits, refusal}
 use Rattle.play.specs.Events.{Outcome, frame_event, mark_event}
 use Rattle.play.specs.Examples.{silence, speech, presents, in_slot, inventory}
-use Rattle.play.proofs.EventWays.{event-served, frame_served}
-use Rattle.play.proofs.ExampleRequests.{inventory-taken, presents_served}
+use Rattle.play.proofs.EventWays.{event_served, frame_served}
+use Rattle.play.proofs.ExampleRequests.{inventory_taken, presents_served}
 use Rattle.play.proofs.ReadyFor.{ready_of}
 use Rattle.play.proofs.Room.{room_of}
 
@@ -41,9 +41,9 @@ module _ (c : Card) (memory locks : List ℕ) where
   stands s = in_sequence (Running s 0x0c 0xabc) (cleared c)
 
   -- it is refused no more than at the start
-  still-served : (room s : ℕ) → s ≤ 15 → refusal c (length memory) locks room ≡ 0 → refusal (stands s) (length memory) locks room ≡ 0
+  still_served : (room s : ℕ) → s ≤ 15 → refusal c (length memory) locks room ≡ 0 → refusal (stands s) (length memory) locks room ≡ 0
   unfolding refusal is_accepted sequence_fits held_fits lengths_fit room_asked room_fits in_sequence cleared remade
-  still-served room s h e =
+  still_served room s h e =
       rw (le-leb s 15 h)
       (go (shape_fits c.blocks c.size) (sequence_fits c.sequence) (held_fits c.held) (lengths_fit c (length memory) (length locks))
       (locks_fit locks) (room_fits c room) e)
@@ -65,15 +65,15 @@ module _ (c : Card) (memory locks : List ℕ) where
   left b s found =
       record { card = stands s; memory = memory; locks = locks; answer = cond b (over says found) found; number = 0; told = cond b 12 0 }
 
-  presents-left : (b : Bool) (s : ℕ) (found : List ℕ) → presents b (stands s) memory locks found ≡ left b s found
+  presents_left : (b : Bool) (s : ℕ) (found : List ℕ) → presents b (stands s) memory locks found ≡ left b s found
   unfolding presents speech silence in_sequence cleared remade
-  presents-left true s found = refl
-  presents-left false s found = refl
+  presents_left true s found = refl
+  presents_left false s found = refl
 
   module _ (is : c.uid % 2 ^ 16 ≡ 0x5abc) where
-    fits-5 : (s : ℕ) → fits_slot c.uid 0x0c 0xabc s ≡ eqb s 5
+    fits_5 : (s : ℕ) → fits_slot c.uid 0x0c 0xabc s ≡ eqb s 5
     unfolding fits_mask fits_slot
-    fits-5 s =
+    fits_5 s =
         let mask : c.uid % 4096 ≡ 0xabc = sym (mod-mod-pow c.uid 4 12) ∙ ap (λ (x : ℕ). x % 4096) is in
         let digit : c.uid / 4096 % 16 ≡ 5 = sym (field c.uid 4 12) ∙ ap (λ (x : ℕ). x / 4096) is in
         rw (eq-eqb (c.uid % 4096) 0xabc mask, digit) (go (ℕ_discrete s 5))
@@ -83,9 +83,9 @@ module _ (c : Card) (memory locks : List ℕ) where
         go (no e) = rw (ne_eqb s 5 e, ne_eqb 5 s (λ h. e (sym h)))
 
     -- slot s is over, and the next one begins with a mark
-    mark-turned : (s : ℕ) → s < 15 → marked (stands s) ≡ record { card = stands (suc s); reply = present (eqb (suc s) 5) }
+    mark_turned : (s : ℕ) → s < 15 → marked (stands s) ≡ record { card = stands (suc s); reply = present (eqb (suc s) 5) }
     unfolding marked released moved in_sequence cleared remade
-    mark-turned s h = rw (lt-ltb s 15 h, add-one, ← (fits-5 (suc s)))
+    mark_turned s h = rw (lt-ltb s 15 h, add-one, ← (fits_5 (suc s)))
 
     module _ (found : List ℕ) (served : refusal c (length memory) locks (length found) ≡ 0) where
       -- the room as slot s finds it: the answer stands in it after slot 5
@@ -95,17 +95,17 @@ module _ (c : Card) (memory locks : List ℕ) where
       late : (s : ℕ) → 6 ≤ s → cond (eqb s 5) (over says (room s)) (room s) ≡ room (suc s)
       late s h = rw (ne_eqb s 5 (omega arith), lt-ltb 5 s (omega arith), lt-ltb 5 (suc s) (omega arith))
 
-      next-room : (s : ℕ) → cond (eqb s 5) (over says (room s)) (room s) ≡ room (suc s)
-      next-room zero = refl
-      next-room (suc zero) = refl
-      next-room (suc (suc zero)) = refl
-      next-room (suc (suc (suc zero))) = refl
-      next-room (suc (suc (suc (suc zero)))) = refl
-      next-room (suc (suc (suc (suc (suc zero))))) = refl
-      next-room (suc (suc (suc (suc (suc (suc s)))))) = late (suc (suc (suc (suc (suc (suc s)))))) (omega arith)
+      next_room : (s : ℕ) → cond (eqb s 5) (over says (room s)) (room s) ≡ room (suc s)
+      next_room zero = refl
+      next_room (suc zero) = refl
+      next_room (suc (suc zero)) = refl
+      next_room (suc (suc (suc zero))) = refl
+      next_room (suc (suc (suc (suc zero)))) = refl
+      next_room (suc (suc (suc (suc (suc zero))))) = refl
+      next_room (suc (suc (suc (suc (suc (suc s)))))) = late (suc (suc (suc (suc (suc (suc s)))))) (omega arith)
 
-      room-length : (s : ℕ) → length (room s) ≡ length found
-      room-length s = go (ltb 5 s)
+      room_length : (s : ℕ) → length (room s) ≡ length found
+      room_length s = go (ltb 5 s)
         where
           long : length (over says found) ≡ length found
           long =
@@ -125,23 +125,23 @@ module _ (c : Card) (memory locks : List ℕ) where
       slot s = presents (eqb s 5) (stands s) memory locks (room s)
 
       -- a mark on what slot s left
-      next-slot : (s : ℕ) → s < 15 → mark_event (stands s) memory locks (room (suc s)) ≡ slot (suc s)
+      next_slot : (s : ℕ) → s < 15 → mark_event (stands s) memory locks (room (suc s)) ≡ slot (suc s)
       unfolding mark_event
-      next-slot s h =
-          event-served (stands s) memory locks (room (suc s)) _ _ refl
-          (rw (room-length (suc s)) (still-served (length found) s (omega arith) served))
-          ∙ rw (mark-turned s h) (presents_served (stands (suc s)) memory locks (room (suc s)) (eqb (suc s) 5))
+      next_slot s h =
+          event_served (stands s) memory locks (room (suc s)) _ _ refl
+          (rw (room_length (suc s)) (still_served (length found) s (omega arith) served))
+          ∙ rw (mark_turned s h) (presents_served (stands (suc s)) memory locks (room (suc s)) (eqb (suc s) 5))
 
       -- the request opens slot 0
       first_slot : is_quiet c.mode ≡ false → frame_event c request memory locks found ≡ slot 0
       unfolding mask_bytes field_of
       first_slot heard =
           frame_served c memory locks found request served (stands 0) (present (fits_slot c.uid 0x0c 0xabc 0))
-          (inventory-taken 0x0c (0xbc ∷ 0x0a ∷ []) refl (omega arith) c locks heard (omega arith))
-          ∙ rw (fits-5 0) (presents_served (stands 0) memory locks found false)
+          (inventory_taken 0x0c (0xbc ∷ 0x0a ∷ []) refl (omega arith) c locks heard (omega arith))
+          ∙ rw (fits_5 0) (presents_served (stands 0) memory locks found false)
 
-      pub slots-heard : is_quiet c.mode ≡ false → (s : ℕ) → s ≤ 15 → in_slot c request memory locks found s ≡ slot s
+      pub slots_heard : is_quiet c.mode ≡ false → (s : ℕ) → s ≤ 15 → in_slot c request memory locks found s ≡ slot s
       unfolding in_slot
-      slots-heard heard zero h = first_slot heard
-      slots-heard heard (suc s) h =
-          rw (slots-heard heard s (omega arith), presents-left (eqb s 5) s (room s), next-room s) (next-slot s (omega arith))
+      slots_heard heard zero h = first_slot heard
+      slots_heard heard (suc s) h =
+          rw (slots_heard heard s (omega arith), presents_left (eqb s 5) s (room s), next_room s) (next_slot s (omega arith))

@@ -19,9 +19,9 @@ use Rattle.play.specs.Refusal.{lengths_fit, locks_fit, room_asked, room_fits, re
 use Rattle.play.specs.Events.{frame_event}
 use Rattle.play.specs.Examples.{Listens, blank, silence, presents, inventory, CardExamples}
 use Rattle.play.proofs.EventWays.{frame_served}
-use Rattle.play.proofs.ExampleReads.{information-shown, last-read, last-read-with-lock, past-last-refused}
-use Rattle.play.proofs.ExampleRequests.{inventory-taken, inventory-passed, silence_served, presents_served, padding-same}
-use Rattle.play.proofs.ExampleSlots.{slots-heard}
+use Rattle.play.proofs.ExampleReads.{information_shown, last_read, last_read_with_lock, past_last_refused}
+use Rattle.play.proofs.ExampleRequests.{inventory_taken, inventory_passed, silence_served, presents_served, padding_same}
+use Rattle.play.proofs.ExampleSlots.{slots_heard}
 
 some_card : Listens blank (replicate 128 0x00) (replicate 32 0) (replicate 163 0x00)
 unfolding blank refusal is_accepted shape_fits sequence_fits held_fits lengths_fit locks_fit room_asked room_fits is_quiet
@@ -42,31 +42,31 @@ own_mask uid mask h = go (ℕ_discrete (uid % 2 ^ 60) mask) (ℕ_discrete (uid /
     go (no e) (no d) = rw (ne_eqb _ _ e, ne_eqb (uid % 2 ^ 64) mask (λ k. omega (arith, whole, d, k, h)))
 
 module _ (c : Card) (memory locks found : List ℕ) (listens : Listens c memory locks found) (mask : List ℕ) (eight : length mask ≡ 8) where
-  taken-3c : frame_event c (inventory 0x3c mask) memory locks found
+  taken_3c : frame_event c (inventory 0x3c mask) memory locks found
       ≡ presents (eqb (c.uid % 2 ^ 64) (field_of mask % 2 ^ 60)) (in_sequence (Running 0 0x3c (field_of mask % 2 ^ 60)) (cleared c)) memory locks found
   unfolding mask_bytes
-  taken-3c =
+  taken_3c =
       let next : Card = in_sequence (Running 0 0x3c (field_of mask % 2 ^ 60)) (cleared c) in
       frame_served c memory locks found (inventory 0x3c mask) listens.served next _
-      (inventory-taken 0x3c mask eight (omega arith) c locks listens.heard (omega arith))
+      (inventory_taken 0x3c mask eight (omega arith) c locks listens.heard (omega arith))
       ∙ rw (own_mask c.uid (field_of mask % 2 ^ 60) (mod-lt (field_of mask) (pow_pos 60))) (presents_served next memory locks found _)
 
-  passed-3d : frame_event c (inventory 0x3d mask) memory locks found ≡ silence (cleared c) memory locks found
+  passed_3d : frame_event c (inventory 0x3d mask) memory locks found ≡ silence (cleared c) memory locks found
   unfolding mask_bytes
-  passed-3d =
-      frame_served c memory locks found (inventory 0x3d mask) listens.served _ _ (inventory-passed 0x3d mask eight (omega arith) c locks (omega arith))
+  passed_3d =
+      frame_served c memory locks found (inventory 0x3d mask) listens.served _ _ (inventory_passed 0x3d mask eight (omega arith) c locks (omega arith))
       ∙ silence_served (cleared c) memory locks found
 
 pub card_examples : CardExamples
 card_examples =
     record {
       blank_listens = some_card;
-      slot_5_only = λ c memory locks found listens is s h. slots-heard c memory locks is found listens.served listens.heard s h;
-      padding_ignored = padding-same;
-      length_3c = taken-3c;
-      length_3d = passed-3d;
-      shows_1f_03 = information-shown;
-      last_block = last-read;
-      last_block_with_lock = last-read-with-lock;
-      past_last = past-last-refused;
+      slot_5_only = λ c memory locks found listens is s h. slots_heard c memory locks is found listens.served listens.heard s h;
+      padding_ignored = padding_same;
+      length_3c = taken_3c;
+      length_3d = passed_3d;
+      shows_1f_03 = information_shown;
+      last_block = last_read;
+      last_block_with_lock = last_read_with_lock;
+      past_last = past_last_refused;
     }

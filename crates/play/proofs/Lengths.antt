@@ -23,7 +23,7 @@ use Rattle.play.specs.Fits.{reply_fits}
 use Rattle.play.specs.Steps.{DeedReady}
 use Rattle.play.specs.Events.{length_told, carried_out, replied}
 use Rattle.play.proofs.Room.{reply_most, length_reply}
-use Rattle.play.proofs.EventWays.{told-silence, told-length}
+use Rattle.play.proofs.EventWays.{told_silence, told_length}
 use Rattle.play.proofs.Stays.{length_memory, length_locks}
 
 -- ---- an answer is none, or has 3 to 8451 bytes
@@ -64,10 +64,10 @@ reply_told c memory locks reply stored marks fits = go (ℕ_discrete (reply_leng
     put = length_reply c memory locks reply stored marks fits
 
     go : Dec (reply_length c reply ≡ 0) → length_told body ≡ reply_length c reply
-    go (yes e) = sym (told-silence body [] (omega (arith, put))) ∙ sym e
+    go (yes e) = sym (told_silence body [] (omega (arith, put))) ∙ sym e
     go (no some) =
         let least : 3 ≤ reply_length c reply = reply_least c reply some in
-        sym (told-length body [] (λ z. omega (arith, put))) ∙ omega (arith, put)
+        sym (told_length body [] (λ z. omega (arith, put))) ∙ omega (arith, put)
 
 -- a deed that is carried out
 pub deed_told : (d : Deed) (frame memory locks found : List ℕ) → DeedReady frame d (length memory) (length locks) (length found)

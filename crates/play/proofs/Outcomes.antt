@@ -13,24 +13,24 @@ use Rattle.play.specs.Effects.{memory_after, locks_after}
 use Rattle.play.specs.Answer.{reply_bytes}
 use Rattle.play.specs.Refusal.{refusal, Accepted}
 use Rattle.play.specs.Events.{length_told, answered, Outcome, replied, unserved, carried_out, frame_event, mark_event, off_event}
-use Rattle.play.proofs.EventWays.{event-refused, event-served}
+use Rattle.play.proofs.EventWays.{event_refused, event_served}
 
 -- ---- refused
 
 pub frame_refused : (c : Card) (frame memory locks found : List ℕ) → (Accepted c memory locks found → ⊥)
     → frame_event c frame memory locks found ≡ unserved c memory locks found (refusal c (length memory) locks (length found))
 unfolding frame_event
-frame_refused c frame memory locks found h = event-refused c memory locks found _ _ refl h
+frame_refused c frame memory locks found h = event_refused c memory locks found _ _ refl h
 
 pub mark_refused : (c : Card) (memory locks found : List ℕ) → (Accepted c memory locks found → ⊥)
     → mark_event c memory locks found ≡ unserved c memory locks found (refusal c (length memory) locks (length found))
 unfolding mark_event
-mark_refused c memory locks found h = event-refused c memory locks found _ _ refl h
+mark_refused c memory locks found h = event_refused c memory locks found _ _ refl h
 
 pub off_refused : (c : Card) (memory locks found : List ℕ) → (Accepted c memory locks found → ⊥)
     → off_event c memory locks found ≡ unserved c memory locks found (refusal c (length memory) locks (length found))
 unfolding off_event
-off_refused c memory locks found h = event-refused c memory locks found _ _ refl h
+off_refused c memory locks found h = event_refused c memory locks found _ _ refl h
 
 -- ---- served, and damaged
 
@@ -38,4 +38,4 @@ pub frame_damaged : (c : Card) (frame memory locks found : List ℕ) → Accepte
     → ◌≡◌ {A = Outcome} (frame_event c frame memory locks found)
     (record { card = cleared c; memory = memory; locks = locks; answer = found; number = 0; told = 0 })
 unfolding frame_event carried_out replied memory_after locks_after reply_bytes answered length_told
-frame_damaged c frame memory locks found a e = event-served c memory locks found _ _ refl a ∙ rw (unsound_silent c locks frame e)
+frame_damaged c frame memory locks found a e = event_served c memory locks found _ _ refl a ∙ rw (unsound_silent c locks frame e)

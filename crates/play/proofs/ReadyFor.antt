@@ -17,7 +17,7 @@ use Rattle.card.specs.declared.Reply.TheVariants.{Silence, Error, Done, Present,
 use Rattle.commands.specs.Frame.{decided}
 use Rattle.card.specs.Mark.{marked}
 use Rattle.card.proofs.Accepted.{tests_of}
-use Rattle.card.proofs.Changes.{marked-keeps}
+use Rattle.card.proofs.Changes.{marked_keeps}
 use Rattle.play.specs.Refusal.{lengths_fit, room_asked, room_fits, refusal}
 use Rattle.play.specs.Fits.{effect_fits, reply_fits, Kept, DeedFits}
 use Rattle.play.specs.Steps.{is_brief, Ready, DeedReady}
@@ -41,9 +41,9 @@ ready_of c memory locks room e =
 
 -- a card of the same shape is ready too
 module _ (card c : Card) (same : Kept card c) where
-  pub ready-shape : (memory : ℕ) (locks : List ℕ) (room : ℕ) → Ready card memory (length locks) room → Ready c memory (length locks) room
+  pub ready_shape : (memory : ℕ) (locks : List ℕ) (room : ℕ) → Ready card memory (length locks) room → Ready c memory (length locks) room
   unfolding room_fits room_asked
-  ready-shape memory locks room r =
+  ready_shape memory locks room r =
       record {
         shape = rw (same.blocks, same.size) r.shape;
         stored = rw (same.blocks, same.size) r.stored;
@@ -51,21 +51,21 @@ module _ (card c : Card) (same : Kept card c) where
         fits = rw (same.blocks, same.size) r.fits;
       }
 
-  effect-shape : (frame : List ℕ) (e : Effect) → effect_fits card frame e ≡ true → effect_fits c frame e ≡ true
+  effect_shape : (frame : List ℕ) (e : Effect) → effect_fits card frame e ≡ true → effect_fits c frame e ≡ true
   unfolding effect_fits
-  effect-shape frame Leave h = refl
-  effect-shape frame (Write first n place) h = rw (same.blocks, same.size) h
-  effect-shape frame (Lock block) h = rw same.blocks h
+  effect_shape frame Leave h = refl
+  effect_shape frame (Write first n place) h = rw (same.blocks, same.size) h
+  effect_shape frame (Lock block) h = rw same.blocks h
 
-  reply-shape : (r : Reply) → reply_fits card r ≡ true → reply_fits c r ≡ true
+  reply_shape : (r : Reply) → reply_fits card r ≡ true → reply_fits c r ≡ true
   unfolding reply_fits
-  reply-shape Silence h = refl
-  reply-shape (Error code) h = refl
-  reply-shape Done h = refl
-  reply-shape Present h = refl
-  reply-shape (Blocks first n option) h = rw same.blocks h
-  reply-shape (Status first n) h = rw same.blocks h
-  reply-shape Information h = refl
+  reply_shape Silence h = refl
+  reply_shape (Error code) h = refl
+  reply_shape Done h = refl
+  reply_shape Present h = refl
+  reply_shape (Blocks first n option) h = rw same.blocks h
+  reply_shape (Status first n) h = rw same.blocks h
+  reply_shape Information h = refl
 
 -- a frame's deed may be carried out
 pub deed_ready : (card : Card) (frame : List ℕ) (memory : ℕ) (locks : List ℕ) (room n : ℕ) (d : Deed) → n ≡ refusal card memory locks room → n ≡ 0
@@ -76,9 +76,9 @@ deed_ready card frame memory locks room n d e z k = rw k (go (decided card locks
     go d fits =
         let r : Ready card memory (length locks) room = ready_of card memory locks room (sym e ∙ z) in
         record {
-          ready = ready-shape card d.card fits.kept memory locks room r;
-          effect = effect-shape card d.card fits.kept frame d.effect fits.effect;
-          reply = reply-shape card d.card fits.kept d.reply fits.reply;
+          ready = ready_shape card d.card fits.kept memory locks room r;
+          effect = effect_shape card d.card fits.kept frame d.effect fits.effect;
+          reply = reply_shape card d.card fits.kept d.reply fits.reply;
         }
 
 -- and a mark's turn
@@ -91,10 +91,10 @@ pub mark_ready : (card : Card) (memory : ℕ) (locks : List ℕ) (room n : ℕ) 
     → t ≡ marked card → TurnReady t memory locks room
 mark_ready card memory locks room n t e z k =
     let p : Passes card memory locks room = passes_of card memory locks room (sym e ∙ z) in
-    let same : Kept card (marked card).card = marked-keeps (kept_changes card []) card (self_kept card) (tests_of card p.accepted).sequence in
+    let same : Kept card (marked card).card = marked_keeps (kept_changes card []) card (self_kept card) (tests_of card p.accepted).sequence in
     rw k
     (record {
-      ready = ready-shape card (marked card).card same memory locks room (ready_of card memory locks room (sym e ∙ z));
+      ready = ready_shape card (marked card).card same memory locks room (ready_of card memory locks room (sym e ∙ z));
       brief = marked_brief card;
       reply = brief_fits (marked card).card (marked card).reply (marked_brief card);
     })

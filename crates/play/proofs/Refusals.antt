@@ -28,6 +28,6 @@ module _ (c : Card) (memory : ℕ) (locks : List ℕ) (room : ℕ) where
       go true false d e p q r s h = absurd (omega arith)
       go false b d e p q r s h = absurd (omega arith)
 
-  pub refusal-none : Passes c memory locks room → refusal c memory locks room ≡ 0
+  pub refusal_none : Passes c memory locks room → refusal c memory locks room ≡ 0
   unfolding refusal
-  refusal-none p = rw (p.accepted, p.lengths, p.marks, p.space)
+  refusal_none p = rw (p.accepted, p.lengths, p.marks, p.space)

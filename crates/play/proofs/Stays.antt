@@ -15,13 +15,13 @@ use Rattle.card.specs.declared.Reply.{Reply}
 use Rattle.card.specs.declared.Reply.TheVariants.{Silence}
 use Rattle.card.specs.Record.{is_accepted, powered_off}
 use Rattle.card.specs.Mark.{marked}
-use Rattle.card.proofs.Changes.{off-keeps, marked-keeps}
+use Rattle.card.proofs.Changes.{off_keeps, marked_keeps}
 use Rattle.card.proofs.Accepted.{tests_of, accepted_changes, marked_accepted, off_accepted}
 use Rattle.commands.specs.declared.Deed.{Deed}
 use Rattle.commands.specs.declared.Effect.{Effect}
 use Rattle.commands.specs.declared.Effect.TheVariants.{Leave, Write, Lock}
 use Rattle.commands.specs.Frame.{decided}
-use Rattle.commands.proofs.Keeps.{decided-keeps}
+use Rattle.commands.proofs.Keeps.{decided_keeps}
 use Rattle.play.specs.Refusal.{lengths_fit, locks_fit, room_asked, room_fits, refusal, Accepted}
 use Rattle.play.specs.Effects.{memory_after, locks_after}
 use Rattle.play.specs.Answer.{reply_bytes}
@@ -34,9 +34,9 @@ use Rattle.play.proofs.Room.{reply_room}
 use Rattle.play.proofs.Kept.{self_kept, kept_changes}
 use Rattle.play.proofs.Turns.{marked_brief}
 use Rattle.play.proofs.Brief.{brief_fits}
-use Rattle.play.proofs.Refusals.{Passes, passes_of, refusal-none}
-use Rattle.play.proofs.ReadyFor.{ready_of, ready-shape, deed_ready}
-use Rattle.play.proofs.EventWays.{event-served}
+use Rattle.play.proofs.Refusals.{Passes, passes_of, refusal_none}
+use Rattle.play.proofs.ReadyFor.{ready_of, ready_shape, deed_ready}
+use Rattle.play.proofs.EventWays.{event_served}
 
 -- ---- lengths, and lock bytes
 
@@ -84,14 +84,14 @@ module _ (card : Card) (memory locks found : List ℕ) (a : Accepted card memory
   passes = passes_of card (length memory) locks (length found) a
 
   -- a card that is kept and accepted, over memory and lock bytes of the same lengths
-  replied-next : (c : Card) (m l : List ℕ) (reply : Reply) → Kept card c → is_accepted c ≡ true → length m ≡ length memory → length l ≡ length locks
+  replied_next : (c : Card) (m l : List ℕ) (reply : Reply) → Kept card c → is_accepted c ≡ true → length m ≡ length memory → length l ≡ length locks
       → locks_fit l ≡ true → reply_fits c reply ≡ true → AcceptedNext (replied c m l reply found)
   unfolding replied lengths_fit room_fits room_asked
-  replied-next c m l reply same accepted em el marks fits =
+  replied_next c m l reply same accepted em el marks fits =
       let ready : Ready c (length m) (length l) (length found) =
-      rw (em, el) (ready-shape card c same (length memory) locks (length found) (ready_of card (length memory) locks (length found) a)) in
+      rw (em, el) (ready_shape card c same (length memory) locks (length found) (ready_of card (length memory) locks (length found) a)) in
       let body : List ℕ = reply_bytes c m l reply in
-      refusal-none c (length m) l (length (answered body found))
+      refusal_none c (length m) l (length (answered body found))
       (record {
         accepted = accepted;
         lengths = rw (em, el, same.blocks, same.size) passes.lengths;
@@ -99,8 +99,8 @@ module _ (card : Card) (memory locks found : List ℕ) (a : Accepted card memory
         space = rw (length_answered body found (reply_room c m l reply (length found) ready fits)) ready.fits;
       })
 
-  event-next : (served : Outcome) → AcceptedNext served → AcceptedNext (event card memory locks found served)
-  event-next served h = rw (event-served card memory locks found served (refusal card (length memory) locks (length found)) refl a) h
+  event_next : (served : Outcome) → AcceptedNext served → AcceptedNext (event card memory locks found served)
+  event_next served h = rw (event_served card memory locks found served (refusal card (length memory) locks (length found)) refl a) h
 
 -- ---- the three events
 
@@ -111,10 +111,10 @@ frame_stays c frame memory locks found a =
     let p : Passes c (length memory) locks (length found) = passes c memory locks found a in
     let ready : DeedReady frame d (length memory) (length locks) (length found) =
     deed_ready c frame (length memory) locks (length found) (refusal c (length memory) locks (length found)) d refl a refl in
-    event-next c memory locks found a _
-    (replied-next c memory locks found a d.card _ _ d.reply
-    (decided-keeps (kept_changes c frame) c (self_kept c) locks)
-    (decided-keeps (accepted_changes frame) c p.accepted locks)
+    event_next c memory locks found a _
+    (replied_next c memory locks found a d.card _ _ d.reply
+    (decided_keeps (kept_changes c frame) c (self_kept c) locks)
+    (decided_keeps (accepted_changes frame) c p.accepted locks)
     (length_memory d.card frame memory d.effect ready.effect ready.ready.stored)
     (length_locks locks d.effect)
     (locks_fit_lem locks d.effect p.marks)
@@ -124,9 +124,9 @@ pub mark_stays : (c : Card) (memory locks found : List ℕ) → Accepted c memor
 unfolding mark_event
 mark_stays c memory locks found a =
     let p : Passes c (length memory) locks (length found) = passes c memory locks found a in
-    event-next c memory locks found a _
-    (replied-next c memory locks found a (marked c).card memory locks (marked c).reply
-    (marked-keeps (kept_changes c []) c (self_kept c) (tests_of c p.accepted).sequence)
+    event_next c memory locks found a _
+    (replied_next c memory locks found a (marked c).card memory locks (marked c).reply
+    (marked_keeps (kept_changes c []) c (self_kept c) (tests_of c p.accepted).sequence)
     (marked_accepted c p.accepted) refl refl p.marks
     (brief_fits (marked c).card (marked c).reply (marked_brief c)))
 
@@ -134,6 +134,6 @@ pub off_stays : (c : Card) (memory locks found : List ℕ) → Accepted c memory
 unfolding off_event reply_fits
 off_stays c memory locks found a =
     let p : Passes c (length memory) locks (length found) = passes c memory locks found a in
-    event-next c memory locks found a _
-    (replied-next c memory locks found a (powered_off c) memory locks Silence
-    (off-keeps (kept_changes c []) c (self_kept c)) (off_accepted c p.accepted) refl refl p.marks refl)
+    event_next c memory locks found a _
+    (replied_next c memory locks found a (powered_off c) memory locks Silence
+    (off_keeps (kept_changes c []) c (self_kept c)) (off_accepted c p.accepted) refl refl p.marks refl)

@@ -41,9 +41,9 @@ module _ (at : ℕ) (s v e : List ℕ) (h : at ≤ length e) where
   unfolding cut
   rest = rw length-take (omega arith)
 
-  cut-cut : cut at s e ++ cut (at + length (cut at s e)) v (placed at (cut at s e) e) ≡ cut at (s ++ v) e
+  cut_cut : cut at s e ++ cut (at + length (cut at s e)) v (placed at (cut at s e) e) ≡ cut at (s ++ v) e
   unfolding cut
-  cut-cut = rw (length_placed at (cut at s e) e fits, rest, take_append (length e - at) s v)
+  cut_cut = rw (length_placed at (cut at s e) e fits, rest, take_append (length e - at) s v)
 
   fits_both : at + length (cut at s e) + length (cut (at + length (cut at s e)) v (placed at (cut at s e) e)) ≤ length e
   unfolding cut
@@ -56,11 +56,11 @@ module _ (at : ℕ) (s v e : List ℕ) (h : at ≤ length e) where
       let c : List ℕ = cut at s e in
       let d : List ℕ = cut (at + length c) v (placed at c e) in
       let both : length (c ++ d) ≡ length c + length d = length-append c d in
-      let all : length (c ++ d) ≡ length (cut at (s ++ v) e) = ap length cut-cut in
+      let all : length (c ++ d) ≡ length (cut at (s ++ v) e) = ap length cut_cut in
       let end : r ≡ at + length c + length d = q.next in
       record {
         next = omega arith;
-        leaves = q.leaves ∙ placed_placed at c d e fits_both ∙ ap (λ (l : List ℕ). placed at l e) cut-cut;
+        leaves = q.leaves ∙ placed_placed at c d e fits_both ∙ ap (λ (l : List ℕ). placed at l e) cut_cut;
       }
 
 -- past the end there is no room

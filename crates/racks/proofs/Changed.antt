@@ -16,8 +16,8 @@ use Rattle.walk.specs.declared.Slot.TheVariants.{Silent, Clashed, Clean}
 use Rattle.walk.specs.Record.{levels_of, is_accepted, is_running, started}
 use Rattle.walk.specs.Hear.{judged, ends_at_once, list_noted, list_after}
 use Rattle.walk.specs.Shared.{rows_with, list_of, lowest_free, is_rack, owners_fit, most_rows, start_refusal, hear_refusal, freed, starting, has_row, owners_after, shared_hearing}
-use Rattle.walk.proofs.Owners.{owners_fit_of, lowest_free_below, lowest_free_is, taken_own, taken-other, taken-fit, freed-own, freed-other, freed-fit}
-use Rattle.walk.proofs.Rows.{list-taken-other, list-freed-other}
+use Rattle.walk.proofs.Owners.{owners_fit_of, lowest_free_below, lowest_free_is, taken_own, taken_other, taken_fit, freed_own, freed_other, freed_fit}
+use Rattle.walk.proofs.Rows.{list_taken_other, list_freed_other}
 use Rattle.walk.proofs.SharedWays.{start_served_of, start_refusal_none, shared_started, start_refused, SharedServed, shared_served_of, shared_heard, shared_refused}
 use Rattle.racks.specs.Calls.{OneList, Call, starts, hears, list_after_call}
 
@@ -146,7 +146,7 @@ taken_most m rack at rows owners o is h = go (ℕ_discrete m rack)
 
     go : Dec (m ≡ rack) → rows_with m (set owners at rack) ≤ 40
     go (yes e) = rw e (omega (arith, taken_own owners at rack o.within long o.was_free o.rack_is, o.few))
-    go (no e) = rw (taken-other owners at rack o.within long o.was_free o.rack_is m e (λ f. omega arith)) h
+    go (no e) = rw (taken_other owners at rack o.within long o.was_free o.rack_is m e (λ f. omega arith)) h
 
 freed_most : (m rack : ℕ) (owners : List ℕ) → rack ≤ 1 → owners_fit owners ≡ true → m ≤ 1 → rows_with m owners ≤ 40 → rows_with m (freed rack owners) ≤ 40
 freed_most m rack owners r fits is h = go (ℕ_discrete m rack)
@@ -155,8 +155,8 @@ freed_most m rack owners r fits is h = go (ℕ_discrete m rack)
     long = fits_length owners fits
 
     go : Dec (m ≡ rack) → rows_with m (freed rack owners) ≤ 40
-    go (yes e) = rw e (omega (arith, freed-own rack owners long r))
-    go (no e) = rw (freed-other rack owners long r m e (λ f. omega arith)) h
+    go (yes e) = rw e (omega (arith, freed_own rack owners long r))
+    go (no e) = rw (freed_other rack owners long r m e (λ f. omega arith)) h
 
 pub sharing_after : (rack : ℕ) (rows owners rows' owners' : List ℕ) → After rack rows owners rows' owners' → Sharing rows owners → Sharing rows' owners'
 sharing_after rack rows owners rows' owners' (hearing (stays p q)) s =
@@ -164,14 +164,14 @@ sharing_after rack rows owners rows' owners' (hearing (stays p q)) s =
 sharing_after rack rows owners rows' owners' (hearing (takes at uid o p q)) s =
     record {
       rows_fit = rw (p, length-set) s.rows_fit;
-      owners_fit = rw q (taken-fit owners at rack o.within (fits_length owners o.owners_fit) o.was_free o.rack_is s.owners_fit);
+      owners_fit = rw q (taken_fit owners at rack o.within (fits_length owners o.owners_fit) o.was_free o.rack_is s.owners_fit);
       first_most = rw q (taken_most 0 rack at rows owners o (omega arith) s.first_most);
       second_most = rw q (taken_most 1 rack at rows owners o (omega arith) s.second_most);
     }
 sharing_after rack rows owners rows' owners' (frees r f p q) s =
     record {
       rows_fit = rw p s.rows_fit;
-      owners_fit = rw q (freed-fit rack owners (fits_length owners f) s.owners_fit);
+      owners_fit = rw q (freed_fit rack owners (fits_length owners f) s.owners_fit);
       first_most = rw q (freed_most 0 rack owners r f (omega arith) s.first_most);
       second_most = rw q (freed_most 1 rack owners r f (omega arith) s.second_most);
     }
@@ -182,14 +182,14 @@ pub other_list : (rack s : ℕ) (rows owners rows' owners' : List ℕ) → After
 other_list rack s rows owners rows' owners' (hearing (stays p q)) is e = ap₂ (list_of s) p q
 other_list rack s rows owners rows' owners' (hearing (takes at uid o p q)) is e =
     ap₂ (list_of s) p q
-    ∙ list-taken-other owners at rack o.within (fits_length owners o.owners_fit) o.was_free o.rack_is rows uid s e (λ f. omega arith)
+    ∙ list_taken_other owners at rack o.within (fits_length owners o.owners_fit) o.was_free o.rack_is rows uid s e (λ f. omega arith)
 other_list rack s rows owners rows' owners' (frees r f p q) is e =
-    ap₂ (list_of s) p q ∙ list-freed-other rack rows owners (fits_length owners f) s e (λ g. omega arith)
+    ap₂ (list_of s) p q ∙ list_freed_other rack rows owners (fits_length owners f) s e (λ g. omega arith)
 
 pub other_rows : (rack s : ℕ) (rows owners rows' owners' : List ℕ) → After rack rows owners rows' owners' → s ≤ 1 → (s ≡ rack → ⊥)
     → rows_with s owners' ≡ rows_with s owners
 other_rows rack s rows owners rows' owners' (hearing (stays p q)) is e = ap (rows_with s) q
 other_rows rack s rows owners rows' owners' (hearing (takes at uid o p q)) is e =
-    ap (rows_with s) q ∙ taken-other owners at rack o.within (fits_length owners o.owners_fit) o.was_free o.rack_is s e (λ f. omega arith)
+    ap (rows_with s) q ∙ taken_other owners at rack o.within (fits_length owners o.owners_fit) o.was_free o.rack_is s e (λ f. omega arith)
 other_rows rack s rows owners rows' owners' (frees r f p q) is e =
-    ap (rows_with s) q ∙ freed-other rack owners (fits_length owners f) r s e (λ g. omega arith)
+    ap (rows_with s) q ∙ freed_other rack owners (fits_length owners f) r s e (λ g. omega arith)

@@ -16,8 +16,8 @@ use Rattle.walk.specs.declared.Walk.{Walk}
 use Rattle.walk.specs.Marks.{levels}
 use Rattle.walk.specs.Record.{whole_mask, places, most_rounds, complete, is_running, started_of, started}
 use Rattle.walk.specs.Shared.{marks_of, rows_with, list_of, owners_fit, list_fits, freed}
-use Rattle.walk.proofs.Owners.{freed-own, freed-other, freed-fit}
-use Rattle.walk.proofs.Rows.{length_list_of, list-freed}
+use Rattle.walk.proofs.Owners.{freed_own, freed_other, freed_fit}
+use Rattle.walk.proofs.Rows.{length_list_of, list_freed}
 use Rattle.play.specs.Life.{Tag}
 use Rattle.field.specs.Field.{answering, arrives}
 use Rattle.field.specs.Found.{Different, BeginE0}
@@ -62,22 +62,22 @@ freed_sharing rack l is fits most = go (ℕ_discrete rack 0)
     long = fits_length l.owners (owners_of_fits l fits)
 
     none : rows_with rack (freed rack l.owners) ≡ 0
-    none = freed-own rack l.owners long is
+    none = freed_own rack l.owners long is
 
     go : Dec (rack ≡ 0) → Sharing l.rows (freed rack l.owners)
     go (yes e) =
         record {
           rows_fit = rows_of_fits l fits;
-          owners_fit = freed-fit rack l.owners long (owners_of_fits l fits);
+          owners_fit = freed_fit rack l.owners long (owners_of_fits l fits);
           first_most = omega (arith, subst (λ (k : ℕ). rows_with k (freed rack l.owners) ≡ 0) e none);
-          second_most = rw (freed-other rack l.owners long is 1 (λ f. omega arith) (λ f. omega arith), rows_counted) (rw e at most);
+          second_most = rw (freed_other rack l.owners long is 1 (λ f. omega arith) (λ f. omega arith), rows_counted) (rw e at most);
         }
     go (no e) =
         let second : rack ≡ 1 = omega arith in
         record {
           rows_fit = rows_of_fits l fits;
-          owners_fit = freed-fit rack l.owners long (owners_of_fits l fits);
-          first_most = rw (freed-other rack l.owners long is 0 (λ f. omega arith) (λ f. omega arith), rows_counted) (rw second at most);
+          owners_fit = freed_fit rack l.owners long (owners_of_fits l fits);
+          first_most = rw (freed_other rack l.owners long is 0 (λ f. omega arith) (λ f. omega arith), rows_counted) (rw second at most);
           second_most = omega (arith, subst (λ (k : ℕ). rows_with k (freed rack l.owners) ≡ 0) second none);
         }
 
@@ -86,14 +86,14 @@ unfolding started started_of
 start_owning rack family l is fits most =
     record {
       sharing = freed_sharing rack l is fits most;
-      number = sym (freed-own rack l.owners (fits_length l.owners (owners_of_fits l fits)) is);
+      number = sym (freed_own rack l.owners (fits_length l.owners (owners_of_fits l fits)) is);
     }
 
 pub stage_start : (rack family : ℕ) (w : Walk) (tags : List Tag) (us : List ℕ) (l : OneList) (room : List ℕ) → rack ≤ 1 → AllObey tags → Shareable l → owned (1 - rack) l ≤ 40
     → 14 ≤ length room → Stage rack family tags us 0 (started_on rack w family l room tags)
 unfolding started_on started levels
 stage_start rack family w tags us l room is obey fits most space =
-    rw (started_by_marks w rack family l.owners is (owners_of_fits l fits), list-freed rack l.rows l.owners (fits_length l.owners (owners_of_fits l fits)) is)
+    rw (started_by_marks w rack family l.owners is (owners_of_fits l fits), list_freed rack l.rows l.owners (fits_length l.owners (owners_of_fits l fits)) is)
     (start_stage levels 24 family tags us room (omega arith) (start_owning rack family l is fits most) obey space)
 
 -- ---- the end

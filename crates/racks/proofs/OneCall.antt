@@ -19,7 +19,7 @@ use Rattle.walk.specs.Hear.{judged, ends_at_once, noted, list_noted, turned, pas
 use Rattle.walk.specs.Shared.{rows_with, lowest_free, most_rows, hear_refusal, has_row, owners_after, shared_hearing}
 use Rattle.racks.specs.Calls.{OneList}
 use Rattle.racks.specs.OneCall.{NoRow, has-40, none_free, FullExactlyAlways, Takes, Stays, TheRowAlways, StartFrees}
-use Rattle.walk.proofs.Owners.{lowest_free_lowest, length-freed, freed-below, freed-past}
+use Rattle.walk.proofs.Owners.{lowest_free_lowest, length_freed, freed_below, freed_past}
 use Rattle.walk.proofs.SharedWays.{start_served_of, shared_started, SharedServed, shared_served_of, shared_heard, shared_refused}
 use Rattle.racks.proofs.Changed.{fits_length, clash_leaves, row_open, own_most}
 use Rattle.racks.proofs.Demand.{rows_counted}
@@ -107,18 +107,18 @@ unfolding list_after list_noted owners_after ends_at_once
 clean_takes w rack u at rows owners = (refl, refl)
 
 module _ (w : Walk) (rack : ℕ) (kind : Kind) (bytes : List ℕ) (l : OneList) where
-  refused-stays : (hear_refusal w rack (length l.rows) l.owners ≡ 0 → ⊥) → Stays l (shared_hearing w rack kind bytes l.rows l.owners)
-  refused-stays e = rw (shared_refused w rack kind bytes l.rows l.owners e) (record { rows = refl; owners = refl })
+  refused_stays : (hear_refusal w rack (length l.rows) l.owners ≡ 0 → ⊥) → Stays l (shared_hearing w rack kind bytes l.rows l.owners)
+  refused_stays e = rw (shared_refused w rack kind bytes l.rows l.owners e) (record { rows = refl; owners = refl })
 
-  served-stays : hear_refusal w rack (length l.rows) l.owners ≡ 0 → ((u : ℕ) → judged w kind bytes ≡ Clean u → NoRow rack l)
+  served_stays : hear_refusal w rack (length l.rows) l.owners ≡ 0 → ((u : ℕ) → judged w kind bytes ≡ Clean u → NoRow rack l)
       → Stays l (shared_hearing w rack kind bytes l.rows l.owners)
-  served-stays e f =
+  served_stays e f =
       let stays = slot_stays w rack l.rows l.owners (judged w kind bytes) (has_row rack l.owners) (λ u is. row_lacking rack l (f u is)) in
       rw (shared_heard w rack kind bytes l.rows l.owners (shared_served_of w rack (length l.rows) l.owners e)) (record { rows = stays.0; owners = stays.1 })
 
-  served-takes : hear_refusal w rack (length l.rows) l.owners ≡ 0 → (u : ℕ) → judged w kind bytes ≡ Clean u → (NoRow rack l → ⊥)
+  served_takes : hear_refusal w rack (length l.rows) l.owners ≡ 0 → (u : ℕ) → judged w kind bytes ≡ Clean u → (NoRow rack l → ⊥)
       → Takes rack u l (shared_hearing w rack kind bytes l.rows l.owners)
-  served-takes e u is some = go (has_row rack l.owners) refl
+  served_takes e u is some = go (has_row rack l.owners) refl
     where
       s : SharedServed w rack (length l.rows) l.owners
       s = shared_served_of w rack (length l.rows) l.owners e
@@ -142,15 +142,15 @@ pub the_row : TheRowAlways
 unfolding TheRowAlways
 the_row w rack kind bytes l =
     record {
-      taken = served-takes w rack kind bytes l;
+      taken = served_takes w rack kind bytes l;
       stays = λ f. go f (ℕ_discrete (hear_refusal w rack (length l.rows) l.owners) 0);
-      refused = refused-stays w rack kind bytes l;
+      refused = refused_stays w rack kind bytes l;
     }
   where
     go : ((u : ℕ) → judged w kind bytes ≡ Clean u → NoRow rack l) → Dec (hear_refusal w rack (length l.rows) l.owners ≡ 0)
         → Stays l (shared_hearing w rack kind bytes l.rows l.owners)
-    go f (yes e) = served-stays w rack kind bytes l e f
-    go f (no e) = refused-stays w rack kind bytes l e
+    go f (yes e) = served_stays w rack kind bytes l e f
+    go f (no e) = refused_stays w rack kind bytes l e
 
 -- ---- starting
 
@@ -162,7 +162,7 @@ start_frees w rack family owners e =
     rw (shared_started w rack family owners s)
     (record {
       walk = refl;
-      long = length-freed rack owners long;
-      marks = λ i h. freed-below rack owners long i h;
-      past = λ i h. freed-past rack owners long i h;
+      long = length_freed rack owners long;
+      marks = λ i h. freed_below rack owners long i h;
+      past = λ i h. freed_past rack owners long i h;
     })

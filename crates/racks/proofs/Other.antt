@@ -17,7 +17,7 @@ use Rattle.walk.specs.declared.Slot.{Slot}
 use Rattle.walk.specs.Record.{is_accepted, is_running}
 use Rattle.walk.specs.Hear.{judged, walk_after}
 use Rattle.walk.specs.Shared.{rows_with, is_rack, owners_fit, list_fits, most_rows, shares_fit, start_refusal, hear_refusal, freed, has_row, shared_hearing, starting}
-use Rattle.walk.proofs.Owners.{rows_with_all, taken_own, taken-other, taken-fit, freed-own, freed-other, freed-fit, freed-below}
+use Rattle.walk.proofs.Owners.{rows_with_all, taken_own, taken_other, taken_fit, freed_own, freed_other, freed_fit, freed_below}
 use Rattle.walk.proofs.SharedWays.{start_served_of, shared_started, start_refused, shared_served_of, refusal_none, shared_heard, shared_refused}
 use Rattle.field.proofs.AnyReplies.{added}
 use Rattle.racks.specs.Calls.{OneList, list_after_call}
@@ -78,9 +78,9 @@ keeps_after rack s l l' is other (hearing (takes at uid o p q)) =
 keeps_after rack s l l' is other (frees r f p q) =
     let long : 64 ≤ length l.owners = fits_length l.owners f in
     record {
-      marks = λ i h e. rw (q, freed-below rack l.owners long i h) (freed_mark rack s (get_or l.owners i 0) other e);
+      marks = λ i h e. rw (q, freed_below rack l.owners long i h) (freed_mark rack s (get_or l.owners i 0) other e);
       rows = λ i h e. rw p;
-      none_new = λ i h e. freed_new rack s (get_or l.owners i 0) is (rw (q, freed-below rack l.owners long i h) at e);
+      none_new = λ i h e. freed_new rack s (get_or l.owners i 0) is (rw (q, freed_below rack l.owners long i h) at e);
       list = other_list rack s l.rows l.owners l'.rows l'.owners (frees r f p q) is other;
     }
 
@@ -106,7 +106,7 @@ shares_taken v rack at s rows owners o is other = go (ℕ_discrete rack 0)
     more = taken_own owners at rack o.within long o.was_free o.rack_is
 
     kept : rows_with s (set owners at rack) ≡ rows_with s owners
-    kept = taken-other owners at rack o.within long o.was_free o.rack_is s other (λ f. omega arith)
+    kept = taken_other owners at rack o.within long o.was_free o.rack_is s other (λ f. omega arith)
 
     own : leb (rows_with rack (set owners at rack)) 40 ≡ leb (rows_with rack owners) 40
     own = most_same {a = rows_with rack (set owners at rack)} {b = rows_with rack owners} (omega (arith, more, o.few)) (omega (arith, o.few))
@@ -127,7 +127,7 @@ shares_taken v rack at s rows owners o is other = go (ℕ_discrete rack 0)
         rw (same, second, kept)
 
 fits_taken : (rack at : ℕ) (rows owners : List ℕ) → Open rack at rows owners → owners_fit (set owners at rack) ≡ owners_fit owners
-fits_taken rack at rows owners o = taken-fit owners at rack o.within (fits_length owners o.owners_fit) o.was_free o.rack_is o.owners_fit ∙ sym o.owners_fit
+fits_taken rack at rows owners o = taken_fit owners at rack o.within (fits_length owners o.owners_fit) o.was_free o.rack_is o.owners_fit ∙ sym o.owners_fit
 
 hear_as_before : (v : Walk) (rack s : ℕ) (rows owners rows' owners' : List ℕ) → s ≤ 1 → (s ≡ rack → ⊥) → Heard rack rows owners rows' owners'
     → hear_refusal v s (length rows') owners' ≡ hear_refusal v s (length rows) owners
@@ -162,16 +162,16 @@ refused_as_before w rack kind bytes l s other =
 
 module _ (w : Walk) (rack family : ℕ) (l : OneList) (s : ℕ) (v : Walk) (is : s ≤ 1) (r : rack ≤ 1) (other : s ≡ rack → ⊥) where
   -- number 5 accepts the marks: all that the other rack needs is left, and the rack's own rows are free
-  freed-serves : owners_fit l.owners ≡ true → is_accepted v ≡ true → is_running v ≡ true → 64 ≤ length l.rows → rows_with s l.owners ≤ 40
+  freed_serves : owners_fit l.owners ≡ true → is_accepted v ≡ true → is_running v ≡ true → 64 ≤ length l.rows → rows_with s l.owners ≤ 40
       → v.count ≡ rows_with s l.owners → hear_refusal v s (length l.rows) (freed rack l.owners) ≡ 0
-  freed-serves fits accepted running rows most number =
+  freed_serves fits accepted running rows most number =
       refusal_none v s (length l.rows) (freed rack owners)
       (record {
         is_rack = is;
         accepted = accepted;
         runs = running;
         room = rows;
-        marks = freed-fit rack owners long fits;
+        marks = freed_fit rack owners long fits;
         first = few 0 (omega arith) (ℕ_discrete 0 rack);
         second = few 1 (omega arith) (ℕ_discrete 1 rack);
         counts = number ∙ sym kept;
@@ -184,10 +184,10 @@ module _ (w : Walk) (rack family : ℕ) (l : OneList) (s : ℕ) (v : Walk) (is :
       long = fits_length owners fits
 
       kept : rows_with s (freed rack owners) ≡ rows_with s owners
-      kept = freed-other rack owners long r s other (λ f. omega arith)
+      kept = freed_other rack owners long r s other (λ f. omega arith)
 
       none : rows_with rack (freed rack owners) ≡ 0
-      none = freed-own rack owners long r
+      none = freed_own rack owners long r
 
       -- the started rack owns none, and the other as many as before
       few : (m : ℕ) → m ≤ 1 → Dec (m ≡ rack) → rows_with m (freed rack owners) ≤ 40
@@ -197,17 +197,17 @@ module _ (w : Walk) (rack family : ℕ) (l : OneList) (s : ℕ) (v : Walk) (is :
           rw same (omega (arith, kept, most))
 
   -- started, or the marks were refused
-  start-serves : Dec (start_refusal rack l.owners ≡ 0) → ServedAfterStart v s (length l.rows) l (starting w rack family l.owners).owners
+  start_serves : Dec (start_refusal rack l.owners ≡ 0) → ServedAfterStart v s (length l.rows) l (starting w rack family l.owners).owners
   unfolding start_refusal
-  start-serves (yes e) =
+  start_serves (yes e) =
       let fits : owners_fit l.owners ≡ true = (start_served_of rack l.owners e).marks in
       rw (shared_started w rack family l.owners (start_served_of rack l.owners e))
       (record {
-        starts = rw (freed-fit rack l.owners (fits_length l.owners fits) fits, fits);
-        serves = λ f. let p = shared_served_of v s (length l.rows) l.owners f in freed-serves fits p.accepted p.runs p.room (own_most v s (length l.rows) l.owners p) p.counts;
-        now_served = λ a b c d n. freed-serves fits a b (rows_of_fits l c) (rw rows_counted d) (n ∙ sym (rows_counted s l.owners));
+        starts = rw (freed_fit rack l.owners (fits_length l.owners fits) fits, fits);
+        serves = λ f. let p = shared_served_of v s (length l.rows) l.owners f in freed_serves fits p.accepted p.runs p.room (own_most v s (length l.rows) l.owners p) p.counts;
+        now_served = λ a b c d n. freed_serves fits a b (rows_of_fits l c) (rw rows_counted d) (n ∙ sym (rows_counted s l.owners));
       })
-  start-serves (no e) =
+  start_serves (no e) =
       rw (start_refused w rack family l.owners e)
       (record {
         starts = refl;
@@ -217,16 +217,16 @@ module _ (w : Walk) (rack family : ℕ) (l : OneList) (s : ℕ) (v : Walk) (is :
 
 pub served_after_start : ServedAfterStartAlways
 unfolding ServedAfterStartAlways
-served_after_start w rack family l s v is r other = start-serves w rack family l s v is r other (ℕ_discrete (start_refusal rack l.owners) 0)
+served_after_start w rack family l s v is r other = start_serves w rack family l s v is r other (ℕ_discrete (start_refusal rack l.owners) 0)
 
 -- ---- the number of free rows
 
 module _ (rack : ℕ) (l l' : OneList) (a : Alike rack l l') where
-  same-own : rows_with rack l.owners ≡ rows_with rack l'.owners
-  same-own = rows_counted rack l.owners ∙ a.own ∙ sym (rows_counted rack l'.owners)
+  same_own : rows_with rack l.owners ≡ rows_with rack l'.owners
+  same_own = rows_counted rack l.owners ∙ a.own ∙ sym (rows_counted rack l'.owners)
 
-  same-free : rows_with 255 l.owners ≡ rows_with 255 l'.owners
-  same-free = rows_counted 255 l.owners ∙ a.free ∙ sym (rows_counted 255 l'.owners)
+  same_free : rows_with 255 l.owners ≡ rows_with 255 l'.owners
+  same_free = rows_counted 255 l.owners ∙ a.free ∙ sym (rows_counted 255 l'.owners)
 
   -- so the other rack has as many too
   same_rows : rack ≤ 1 → (rows_with 0 l.owners ≡ rows_with 0 l'.owners) × (rows_with 1 l.owners ≡ rows_with 1 l'.owners)
@@ -240,31 +240,31 @@ module _ (rack : ℕ) (l l' : OneList) (a : Alike rack l l') where
 
       go : Dec (rack ≡ 0) → (rows_with 0 l.owners ≡ rows_with 0 l'.owners) × (rows_with 1 l.owners ≡ rows_with 1 l'.owners)
       go (yes e) =
-          let own : rows_with 0 l.owners ≡ rows_with 0 l'.owners = subst (λ (k : ℕ). rows_with k l.owners ≡ rows_with k l'.owners) e same-own in
-          (own, omega (arith, own, same-free, all, all'))
+          let own : rows_with 0 l.owners ≡ rows_with 0 l'.owners = subst (λ (k : ℕ). rows_with k l.owners ≡ rows_with k l'.owners) e same_own in
+          (own, omega (arith, own, same_free, all, all'))
       go (no e) =
           let second : rack ≡ 1 = omega arith in
-          let own : rows_with 1 l.owners ≡ rows_with 1 l'.owners = subst (λ (k : ℕ). rows_with k l.owners ≡ rows_with k l'.owners) second same-own in
-          (omega (arith, own, same-free, all, all'), own)
+          let own : rows_with 1 l.owners ≡ rows_with 1 l'.owners = subst (λ (k : ℕ). rows_with k l.owners ≡ rows_with k l'.owners) second same_own in
+          (omega (arith, own, same_free, all, all'), own)
 
   same_row : has_row rack l.owners ≡ has_row rack l'.owners
   unfolding has_row
-  same_row = rw (same-own, same-free)
+  same_row = rw (same_own, same_free)
 
-  same-refusal : (w : Walk) → hear_refusal w rack (length l.rows) l.owners ≡ hear_refusal w rack (length l'.rows) l'.owners
+  same_refusal : (w : Walk) → hear_refusal w rack (length l.rows) l.owners ≡ hear_refusal w rack (length l'.rows) l'.owners
   unfolding hear_refusal shares_fit
-  same-refusal w = go (dec_le rack 1)
+  same_refusal w = go (dec_le rack 1)
     where
       go : Dec (rack ≤ 1) → hear_refusal w rack (length l.rows) l.owners ≡ hear_refusal w rack (length l'.rows) l'.owners
-      go (yes is) = rw (a.fits, a.fits', (same_rows is).0, (same_rows is).1, same-own)
+      go (yes is) = rw (a.fits, a.fits', (same_rows is).0, (same_rows is).1, same_own)
       go (no h) = no_rack_hears w rack _ _ h ∙ sym (no_rack_hears w rack _ _ h)
 
-  same-heard : (w : Walk) (kind : Kind) (bytes : List ℕ) → Dec (hear_refusal w rack (length l.rows) l.owners ≡ 0)
+  same_heard : (w : Walk) (kind : Kind) (bytes : List ℕ) → Dec (hear_refusal w rack (length l.rows) l.owners ≡ 0)
       → SameHeard rack l l' (shared_hearing w rack kind bytes l.rows l.owners) (shared_hearing w rack kind bytes l'.rows l'.owners)
   unfolding times
-  same-heard w kind bytes (yes e) =
+  same_heard w kind bytes (yes e) =
       let s = shared_served_of w rack (length l.rows) l.owners e in
-      let s' = shared_served_of w rack (length l'.rows) l'.owners (sym (same-refusal w) ∙ e) in
+      let s' = shared_served_of w rack (length l'.rows) l'.owners (sym (same_refusal w) ∙ e) in
       let slot : Slot = judged w kind bytes in
       rw (shared_heard w rack kind bytes l.rows l.owners s, shared_heard w rack kind bytes l'.rows l'.owners s')
       (record {
@@ -276,10 +276,10 @@ module _ (rack : ℕ) (l l' : OneList) (a : Alike rack l l') where
             ∙ ap₂ (λ (m : ℕ) (b : Bool). m + added v slot b) (same u) same_row
             ∙ sym (own_lists w rack l'.rows l'.owners slot (has_row rack l'.owners) (row_open w rack l'.rows l'.owners s') v);
       })
-  same-heard w kind bytes (no e) =
-      rw (shared_refused w rack kind bytes l.rows l.owners e, shared_refused w rack kind bytes l'.rows l'.owners (λ f. e (same-refusal w ∙ f)))
-      (record { number = same-refusal w; walk = refl; lists = λ same. same })
+  same_heard w kind bytes (no e) =
+      rw (shared_refused w rack kind bytes l.rows l.owners e, shared_refused w rack kind bytes l'.rows l'.owners (λ f. e (same_refusal w ∙ f)))
+      (record { number = same_refusal w; walk = refl; lists = λ same. same })
 
 pub free_rows_alone : FreeRowsAlone
 unfolding FreeRowsAlone
-free_rows_alone w rack kind bytes l l' a = same-heard rack l l' a w kind bytes (ℕ_discrete (hear_refusal w rack (length l.rows) l.owners) 0)
+free_rows_alone w rack kind bytes l l' a = same_heard rack l l' a w kind bytes (ℕ_discrete (hear_refusal w rack (length l.rows) l.owners) 0)

@@ -16,7 +16,7 @@ use Rattle.walk.specs.Record.{levels_of, is_accepted, is_running}
 use Rattle.walk.specs.Hear.{ends_at_once, list_noted, list_after}
 use Rattle.walk.specs.Shared.{rows_with, list_of, lowest_free, most_rows, has_row, owners_after}
 use Rattle.walk.proofs.Owners.{rows_with_all}
-use Rattle.walk.proofs.Rows.{list-taken}
+use Rattle.walk.proofs.Rows.{list_taken}
 use Rattle.walk.proofs.SharedWays.{SharedServed}
 use Rattle.field.proofs.AnyReplies.{added, Lists}
 use Rattle.racks.proofs.Changed.{Open, clash_leaves, fits_length, Sharing}
@@ -75,5 +75,5 @@ own_lists w rack rows owners Silent place may v = omega arith
 own_lists w rack rows owners Clashed place may v = rw (clash_leaves (ltb (w.level + 1) (levels_of w)) rows) (omega arith)
 own_lists w rack rows owners (Clean u) true may v =
     let o : Open rack (lowest_free owners) rows owners = may refl in
-    list-taken owners (lowest_free owners) rack o.within (fits_length owners o.owners_fit) o.was_free o.rack_is rows u o.rows_fit v
+    list_taken owners (lowest_free owners) rack o.within (fits_length owners o.owners_fit) o.was_free o.rack_is rows u o.rows_fit v
 own_lists w rack rows owners (Clean u) false may v = omega arith

@@ -15,8 +15,8 @@ use Rattle.walk.specs.Marks.{levels}
 use Rattle.walk.specs.Record.{levels_of, most_rounds, is_running, started_of, started}
 use Rattle.walk.specs.Hear.{starts_e0, judged}
 use Rattle.walk.specs.Shared.{hear_refusal, freed, has_row}
-use Rattle.walk.proofs.Owners.{freed-own, freed-fit}
-use Rattle.walk.proofs.Rows.{length_list_of, list-freed}
+use Rattle.walk.proofs.Owners.{freed_own, freed_fit}
+use Rattle.walk.proofs.Rows.{length_list_of, list_freed}
 use Rattle.walk.proofs.SharedWays.{start_served_of, start_refused, shared_served_of, refusal_none, shared_heard, shared_refused}
 use Rattle.field.specs.Field.{Arrival}
 use Rattle.field.proofs.Accepted.{walks_accepted}
@@ -57,7 +57,7 @@ pub goes_fresh : (rack family : ℕ) (l : OneList) → rack ≤ 1 → Shareable 
     → Goes rack 0 (started family) (record { rows = l.rows; owners = freed rack l.owners })
 goes_fresh rack family l is fits most =
     goes_empty rack family (record { rows = l.rows; owners = freed rack l.owners }) (start_owning rack family l is fits most).sharing
-    (list-freed rack l.rows l.owners (fits_length l.owners (owners_of_fits l fits)) is)
+    (list_freed rack l.rows l.owners (fits_length l.owners (owners_of_fits l fits)) is)
 
 -- ---- a slot of its own
 
@@ -211,7 +211,7 @@ goes_started rack family w l is s =
     rw (started_by_marks w rack family l.owners is s.owners_fit)
     (goes_empty rack family (record { rows = l.rows; owners = freed rack l.owners })
     (sharing_after rack l.rows l.owners l.rows (freed rack l.owners) (frees is s.owners_fit refl refl) s)
-    (list-freed rack l.rows l.owners (fits_length l.owners s.owners_fit) is))
+    (list_freed rack l.rows l.owners (fits_length l.owners s.owners_fit) is))
 
 -- a turn of a rack, and what it leaves to the other
 own_turn : (rack n : ℕ) (turn : Turn) (w : Walk) (l : OneList) → rack ≤ 1 → Goes rack n w l
@@ -257,13 +257,13 @@ both_start family family' p fits =
     let fit = owners_of_fits l fits in
     let long : 64 ≤ length l.owners = fits_length l.owners fit in
     let one : OneList = record { rows = l.rows; owners = freed 0 l.owners } in
-    let fit-one = freed-fit 0 l.owners long fit in
+    let fit-one = freed_fit 0 l.owners long fit in
     let fits_one : Shareable one = both_fit one (rows_of_fits l fits) fit-one in
     let two : OneList = record { rows = l.rows; owners = freed 1 (freed 0 l.owners) } in
-    let none : owned 0 one ≤ 40 = omega (arith, sym (rows_counted 0 (freed 0 l.owners)) ∙ freed-own 0 l.owners long (omega arith)) in
+    let none : owned 0 one ≤ 40 = omega (arith, sym (rows_counted 0 (freed 0 l.owners)) ∙ freed_own 0 l.owners long (omega arith)) in
     let second : Goes 1 0 (started family') two = goes_fresh 1 family' one (omega arith) fits_one none in
     let left : rows_of 0 two ≡ rows_of 0 one = other_list 1 0 l.rows (freed 0 l.owners) l.rows (freed 1 (freed 0 l.owners)) (frees (omega arith) fit-one refl refl) (omega arith) (λ e. omega arith) in
-    let first : Goes 0 0 (started family) two = goes_empty 0 family two second.owning.sharing (left ∙ list-freed 0 l.rows l.owners long (omega arith)) in
+    let first : Goes 0 0 (started family) two = goes_empty 0 family two second.owning.sharing (left ∙ list_freed 0 l.rows l.owners long (omega arith)) in
     rw (started_by_marks p.first 0 family l.owners (omega arith) fit, started_by_marks p.second 1 family' (freed 0 l.owners) (omega arith) fit-one)
     (record { n = 0; m = 0; first = first; second = second })
 

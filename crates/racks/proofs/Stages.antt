@@ -27,7 +27,7 @@ use Rattle.field.proofs.Next.{Suits, Next, moves, opens, stops}
 use Rattle.field.proofs.Steps.{slot_next}
 use Rattle.field.proofs.Suited.{e0_suit}
 use Rattle.field.proofs.WalkServed.{ended_asked, nothing_reached}
-use Rattle.field.proofs.PlayedSlot.{Brings, Arrived, slot-arrives}
+use Rattle.field.proofs.PlayedSlot.{Brings, Arrived, slot_arrives}
 use Rattle.field.proofs.Stages.{StageOf, hears, rests, next_stage, running_of}
 use Rattle.racks.specs.Calls.{OneList, rows_of, Call, list_after_call}
 use Rattle.racks.specs.Rack.{Desk, Happening, own, other, own_events, slot_played_on, event_played, played_on}
@@ -109,7 +109,7 @@ hears_played rack family tags us d is obey begin brings o g h e f room row =
     let fit : Suits levels us = e0_suit us begin in
     let level : w.level < 16 = walks_level w ls w.slot fit.most g.walks in
     slot_played_lem rack family tags us d (owning_served rack w d.list.rows d.list.owners is accepted (running_of w e) o)
-    (slot-arrives arrives us family tags w d.room d.tags obey (subst⁻¹ (λ (n : ℕ). Brings arrives n us family tags) g.walks.marks_length brings) accepted level (running_of w e) f room row)
+    (slot_arrives arrives us family tags w d.room d.tags obey (subst⁻¹ (λ (n : ℕ). Brings arrives n us family tags) g.walks.marks_length brings) accepted level (running_of w e) f room row)
 
 pub stage_own : (rack family : ℕ) (tags : List Tag) (us : List ℕ) (n : ℕ) (d : Desk) → rack ≤ 1 → AllObey tags → BeginE0 us → Brings arrives levels us family tags
     → Stage rack family tags us n d → Stage rack family tags us (suc n) (slot_played_on rack d)

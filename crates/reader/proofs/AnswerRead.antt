@@ -73,10 +73,10 @@ module _ (q : Request) (is : is_request q ≡ true) (found found' : List ℕ) (r
   unfolding read_refusal
   served answer e = rw (is, le-leb (block_bytes q) (length found) room, le-leb (lock_bytes q) (length found') room', e) refl
 
-  pub part-read : (part : List ℕ) → length part + 3 ≡ earned q → (q.command ≡ 0x2b → get_or part 0 0 ≡ 0x0f)
+  pub part_read : (part : List ℕ) → length part + 3 ≡ earned q → (q.command ≡ 0x2b → get_or part 0 0 ≡ 0x0f)
       → reading q (sealed (0x00 ∷ part)) found found' ≡ shown_in q part found found'
   unfolding reading
-  part-read part long told = rw (served (sealed (0x00 ∷ part)) (is_answer_of_part q part long told), sealed_first, part_of_sealed) refl
+  part_read part long told = rw (served (sealed (0x00 ∷ part)) (is_answer_of_part q part long told), sealed_first, part_of_sealed) refl
 
   pub code_read : (code : ℕ) → reading q (sealed (0x01 ∷ code ∷ [])) found found' ≡ outcome 0 (Error code) found found'
   unfolding reading

@@ -63,31 +63,31 @@ module _ (memory locks : List ℕ) (size : ℕ) (option : Bool) (first : ℕ) wh
   per = lead option + size
 
   -- the next block is in the memory, and so are those before it
-  next-inside : (n : ℕ) → (first + suc n) * size ≤ length memory → (first + n) * size + size ≤ length memory
-  next-inside n h =
+  next_inside : (n : ℕ) → (first + suc n) * size ≤ length memory → (first + n) * size + size ≤ length memory
+  next_inside n h =
       let k : suc (first + n) * size ≡ (first + n) * size + size = suc-mul (first + n) size in
       let same : first + suc n ≡ suc (first + n) = omega arith in
       let all : suc (first + n) * size ≤ length memory = rw same at h in
       omega (arith, k)
 
   fewer : (n : ℕ) → (first + suc n) * size ≤ length memory → (first + n) * size ≤ length memory
-  fewer n h = omega (arith, next-inside n h)
+  fewer n h = omega (arith, next_inside n h)
 
-  length-block : (n : ℕ) → (first + suc n) * size ≤ length memory → length (block_of memory size (first + n)) ≡ size
+  length_block : (n : ℕ) → (first + suc n) * size ≤ length memory → length (block_of memory size (first + n)) ≡ size
   unfolding block_of
-  length-block n h = length-take-le size (drop ((first + n) * size) memory) (rw length-drop (omega (arith, next-inside n h)))
+  length_block n h = length-take-le size (drop ((first + n) * size) memory) (rw length-drop (omega (arith, next_inside n h)))
 
-  pub length-read : (n : ℕ) → (first + n) * size ≤ length memory → length (read n) ≡ n * per
+  pub length_read : (n : ℕ) → (first + n) * size ≤ length memory → length (read n) ≡ n * per
   unfolding blocks_read block_read
-  length-read zero h = omega arith
-  length-read (suc n) h =
-      rw (length-append, length-append, length-read n (fewer n h), length_lead locks option (first + n), length-block n h, suc-mul n per)
+  length_read zero h = omega arith
+  length_read (suc n) h =
+      rw (length-append, length-append, length_read n (fewer n h), length_lead locks option (first + n), length_block n h, suc-mul n per)
 
   -- the last block, and what comes before it
   block_back : (n : ℕ) → (first + suc n) * size ≤ length memory → take size (drop (n * per + lead option) (read (suc n))) ≡ block_of memory size (first + n)
   unfolding blocks_read block_read block_of
   block_back n h =
-      let long : length (read n) ≡ n * per = length-read n (fewer n h) in
+      let long : length (read n) ≡ n * per = length_read n (fewer n h) in
       rw (
         ← long,
         drop-append-add,
@@ -95,10 +95,10 @@ module _ (memory locks : List ℕ) (size : ℕ) (option : Bool) (first : ℕ) wh
         take-take size size (drop ((first + n) * size) memory) (omega arith),
       )
 
-  lead-back : (n : ℕ) → (first + suc n) * size ≤ length memory → take (lead option) (drop (n * per) (read (suc n))) ≡ lead_bytes locks option (first + n)
+  lead_back : (n : ℕ) → (first + suc n) * size ≤ length memory → take (lead option) (drop (n * per) (read (suc n))) ≡ lead_bytes locks option (first + n)
   unfolding blocks_read block_read
-  lead-back n h =
-      let long : length (read n) ≡ n * per = length-read n (fewer n h) in
+  lead_back n h =
+      let long : length (read n) ≡ n * per = length_read n (fewer n h) in
       rw (
         ← long,
         drop-append_seam,
@@ -112,33 +112,33 @@ module _ (memory locks : List ℕ) (size : ℕ) (option : Bool) (first : ℕ) wh
       rw (suc-mul n size, take-add (n * size) size (drop (first * size) memory), drop-drop (n * size) (first * size) memory, place)
 
   -- those before the last are as they were without it
-  blocks-before : (n : ℕ) → (first + suc n) * size ≤ length memory → blocks_in (read (suc n)) (lead option) size n ≡ blocks_in (read n) (lead option) size n
+  blocks_before : (n : ℕ) → (first + suc n) * size ≤ length memory → blocks_in (read (suc n)) (lead option) size n ≡ blocks_in (read n) (lead option) size n
   unfolding blocks_read
-  blocks-before n h =
-      let long : length (read n) ≡ n * per = length-read n (fewer n h) in
+  blocks_before n h =
+      let long : length (read n) ≡ n * per = length_read n (fewer n h) in
       blocks_left (read n) (block_read memory locks size option (first + n)) (lead option) size n (omega arith)
 
-  leads-before : (n : ℕ) → (first + suc n) * size ≤ length memory → leads_in (read (suc n)) (lead option) size n ≡ leads_in (read n) (lead option) size n
+  leads_before : (n : ℕ) → (first + suc n) * size ≤ length memory → leads_in (read (suc n)) (lead option) size n ≡ leads_in (read n) (lead option) size n
   unfolding blocks_read
-  leads-before n h =
-      let long : length (read n) ≡ n * per = length-read n (fewer n h) in
+  leads_before n h =
+      let long : length (read n) ≡ n * per = length_read n (fewer n h) in
       leads_left (read n) (block_read memory locks size option (first + n)) (lead option) size n (omega arith)
 
   -- the blocks, one after the other, are the memory's own bytes
-  pub blocks-of-card : (n : ℕ) → (first + n) * size ≤ length memory
+  pub blocks_of_card : (n : ℕ) → (first + n) * size ≤ length memory
       → blocks_in (read n) (lead option) size n ≡ take (n * size) (drop (first * size) memory)
   unfolding blocks_in
-  blocks-of-card zero h = rw zero-mul refl
-  blocks-of-card (suc n) h = rw (blocks-before n h, blocks-of-card n (fewer n h), block_back n h) (block_more n)
+  blocks_of_card zero h = rw zero-mul refl
+  blocks_of_card (suc n) h = rw (blocks_before n h, blocks_of_card n (fewer n h), block_back n h) (block_more n)
 
   -- and what comes before them, one after the other, the lock bytes
-  pub leads-of-card : (n : ℕ) → (first + n) * size ≤ length memory → first + n ≤ length locks
+  pub leads_of_card : (n : ℕ) → (first + n) * size ≤ length memory → first + n ≤ length locks
       → leads_in (read n) (lead option) size n ≡ marks locks option first n
   unfolding leads_in
-  leads-of-card zero h k = none option
+  leads_of_card zero h k = none option
     where
       none : (b : Bool) → [] ≡ marks locks b first 0
       none true = refl
       none false = refl
-  leads-of-card (suc n) h k =
-      rw (leads-before n h, leads-of-card n (fewer n h) (omega arith), lead-back n h) (marks_more locks option first n k)
+  leads_of_card (suc n) h k =
+      rw (leads_before n h, leads_of_card n (fewer n h) (omega arith), lead_back n h) (marks_more locks option first n k)

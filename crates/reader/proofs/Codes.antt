@@ -92,15 +92,15 @@ other_command q e =
     go false false false f p r s t h = absurd (false≢true h)
 
 module _ (q : Request) (held : is_held q ≡ true) where
-  pub held-done : reply_to q ≡ reply.Done
+  pub held_done : reply_to q ≡ reply.Done
   unfolding reply_to
-  held-done =
+  held_done =
       let o = other_command q held in
       rw (o.no_20, o.no_23, o.no_2b, o.no_2c)
 
-  pub held-reading : (c : Card) → reading_held c q ≡ Done
+  pub held_reading : (c : Card) → reading_held c q ≡ Done
   unfolding reading_held
-  held-reading c =
+  held_reading c =
       let o = other_command q held in
       rw (o.no_20, o.no_23, o.no_2b, o.no_2c)
 
@@ -110,8 +110,8 @@ module _ (q : Request) (held : is_held q ≡ true) where
       let o = other_command q held in
       rw (o.no_20, o.no_23)
 
-  pub held-marks : (locks : List ℕ) → marks_held locks q ≡ []
+  pub held_marks : (locks : List ℕ) → marks_held locks q ≡ []
   unfolding marks_held
-  held-marks locks =
+  held_marks locks =
       let o = other_command q held in
       rw (o.no_20, o.no_23, o.no_2c)

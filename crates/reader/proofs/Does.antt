@@ -26,9 +26,9 @@ use Rattle.reader.proofs.Commands.{OneOfTwelve, Is20, Is21, Is22, Is23, Is25, Is
 use Rattle.reader.proofs.MakeWays.{parts_of_request}
 use Rattle.reader.proofs.Kept.{Kept, changed_kept, holding_kept}
 use Rattle.reader.proofs.Ready.{ready_of}
-use Rattle.reader.proofs.Stored.{stored-data, stored_nothing}
-use Rattle.reader.proofs.Decided.{data-place}
-use Rattle.reader.proofs.Ends.{Meets, Ends, done-ends, done-held-ends}
+use Rattle.reader.proofs.Stored.{stored_data, stored_nothing}
+use Rattle.reader.proofs.Decided.{data_place}
+use Rattle.reader.proofs.Ends.{Meets, Ends, done_ends, done_held_ends}
 
 -- ---- what is written is not locked
 
@@ -97,23 +97,23 @@ locks_after_lem q locks = go (eqb q.command 0x21) (eqb q.command 0x22) refl refl
 
 module _ {q : Request} {written : List ℕ} {c : Card} {memory locks found : List ℕ} {r : Served} {m l a : List ℕ}
     (met : Meets q written c memory locks found r m l a) (z : code_of c locks q ≡ 0) where
-  memory-after : (d : Card) (spoken : Reply) → Kept c d → Ends met d (effect_of q) spoken → m ≡ memory_written q written memory
+  memory_after_lem : (d : Card) (spoken : Reply) → Kept c d → Ends met d (effect_of q) spoken → m ≡ memory_written q written memory
   unfolding replied memory_written
-  memory-after d spoken kept p = go (eqb q.command 0x21) refl
+  memory_after_lem d spoken kept p = go (eqb q.command 0x21) refl
     where
       go : (b : Bool) → eqb q.command 0x21 ≡ b → m ≡ cond b (placed (q.first * q.size) written memory) memory
       go true e =
           p.memory_left
-          ∙ stored-data q written c d memory locks (ready_of c memory locks found met.fits.accepted) met.fits.same_size kept
-          (data-place q written met.is met.of) met.of (eqb-true q.command 0x21 e)
+          ∙ stored_data q written c d memory locks (ready_of c memory locks found met.fits.accepted) met.fits.same_size kept
+          (data_place q written met.is met.of) met.of (eqb-true q.command 0x21 e)
       go false e = p.memory_left ∙ stored_nothing q d (frame q written) memory e
 
   -- d is the card that was changed, held or not
-  does-of : (d : Card) (spoken : Reply) → Kept c d → CardDoes q c d → Ends met d (effect_of q) spoken → Does q written c memory locks r.card m l
+  does_of : (d : Card) (spoken : Reply) → Kept c d → CardDoes q c d → Ends met d (effect_of q) spoken → Does q written c memory locks r.card m l
   unfolding replied
-  does-of d spoken kept does p =
+  does_of d spoken kept does p =
       record {
-        memory_written = memory-after d spoken kept p;
+        memory_written = memory_after_lem d spoken kept p;
         locks_set = p.locks_left ∙ locks_after_lem q locks;
         mode_gone = ap (λ (e : Card). e.mode) p.card ∙ does.mode;
         afi_written = ap (λ (e : Card). e.afi) p.card ∙ does.afi;
@@ -122,17 +122,17 @@ module _ {q : Request} {written : List ℕ} {c : Card} {memory locks found : Lis
         dsfid_lock = ap (λ (e : Card). e.dsfid_locked) p.card ∙ does.dsfid_lock;
       }
 
-  held-does : (h : Held) (d : Card) → CardDoes q c d → CardDoes q c (holding h d)
+  held_does : (h : Held) (d : Card) → CardDoes q c d → CardDoes q c (holding h d)
   unfolding holding remade
-  held-does h d p = record { mode = p.mode; afi = p.afi; dsfid = p.dsfid; afi_lock = p.afi_lock; dsfid_lock = p.dsfid_lock }
+  held_does h d p = record { mode = p.mode; afi = p.afi; dsfid = p.dsfid; afi_lock = p.afi_lock; dsfid_lock = p.dsfid_lock }
 
   changed : CardDoes q c (changed_by q (cleared c))
   changed = card_does c locks q z (one_of_twelve q.command (parts_of_request q met.is).0)
 
-  pub does-now : is_called c q ≡ true → is_held q ≡ false → Does q written c memory locks r.card m l
-  does-now h n = does-of (changed_by q (cleared c)) (reply_to q) (changed_kept q c) changed (done-ends met h z n)
+  pub does_now : is_called c q ≡ true → is_held q ≡ false → Does q written c memory locks r.card m l
+  does_now h n = does_of (changed_by q (cleared c)) (reply_to q) (changed_kept q c) changed (done_ends met h z n)
 
-  pub does-held : is_called c q ≡ true → is_held q ≡ true → Does q written c memory locks r.card m l
-  does-held h n =
+  pub does_held : is_called c q ≡ true → is_held q ≡ true → Does q written c memory locks r.card m l
+  does_held h n =
       let next : Card = changed_by q (cleared c) in
-      does-of (holding Success next) Silence (holding_kept c next Success (changed_kept q c)) (held-does Success next changed) (done-held-ends met h z n)
+      does_of (holding Success next) Silence (holding_kept c next Success (changed_kept q c)) (held_does Success next changed) (done_held_ends met h z n)

@@ -35,18 +35,18 @@ is_answer_true q answer (ASuccess part is long flags) =
 -- ---- and back
 
 module _ (q : Request) (answer : List ℕ) (seal : answer ≡ sealed (take (length answer - 2) answer)) (long : 3 ≤ length answer) where
-  of-error : is_error answer ≡ true → IsAnswer q answer
+  of_error : is_error answer ≡ true → IsAnswer q answer
   unfolding is_error
-  of-error h =
+  of_error h =
       let both = (and-eq-true_iff (eqb (get_or answer 0 0) 0x01) (eqb (length answer) 4)).0 h in
       let flags : get_or answer 0 0 ≡ 0x01 = eqb-true (get_or answer 0 0) 0x01 both.0 in
       let four : length answer ≡ 4 = eqb-true (length answer) 4 both.1 in
       let two : length answer - 2 ≡ 2 = omega arith in
       AnError (get_or answer 1 0) (seal ∙ ap sealed (rw (two, take_two answer (omega arith), flags) refl))
 
-  of-success : is_success q answer ≡ true → IsAnswer q answer
+  of_success : is_success q answer ≡ true → IsAnswer q answer
   unfolding is_success
-  of-success h =
+  of_success h =
       let rest : Bool = cond (eqb q.command 0x2b) (eqb (get_or answer 1 0) 0x0f) true in
       let first = (and-eq-true_iff (eqb (get_or answer 0 0) 0x00) (eqb (length answer) (earned q) && rest)).0 h in
       let second = (and-eq-true_iff (eqb (length answer) (earned q)) rest).0 first.1 in
@@ -67,8 +67,8 @@ is_answer_words q answer h =
   where
     go : answer ≡ sealed (take (length answer - 2) answer) → 3 ≤ length answer → (t : Bool) → is_error answer ≡ t
         → (is_error answer || is_success q answer) ≡ true → IsAnswer q answer
-    go seal long true is either = of-error q answer seal long is
-    go seal long false is either = of-success q answer seal long (rw is at either)
+    go seal long true is either = of_error q answer seal long is
+    go seal long false is either = of_success q answer seal long (rw is at either)
 
 -- ---- the three laws
 
@@ -79,18 +79,18 @@ module _ (q : Request) (answer blocks locks : List ℕ) (asked : is_request q �
     refusal_is = rw (asked, le-leb (block_bytes q) (length blocks) b, le-leb (lock_bytes q) (length locks) l) refl
 
     -- what the words say is read
-    pub read-of-answer : IsAnswer q answer → (reading q answer blocks locks).number ≡ 0
-    read-of-answer is = number_read q answer blocks locks ∙ refusal_is ∙ rw (is_answer_true q answer is) refl
+    pub read_of_answer : IsAnswer q answer → (reading q answer blocks locks).number ≡ 0
+    read_of_answer is = number_read q answer blocks locks ∙ refusal_is ∙ rw (is_answer_true q answer is) refl
 
     -- and nothing else is
-    pub answer-of-read : (reading q answer blocks locks).number ≡ 0 → IsAnswer q answer
-    answer-of-read h =
+    pub answer_of_read : (reading q answer blocks locks).number ≡ 0 → IsAnswer q answer
+    answer_of_read h =
         let good = unrefused q answer (length blocks) (length locks) (sym (number_read q answer blocks locks) ∙ h) in
         is_answer_words q answer good.answered
 
-    pub else-eleven : (IsAnswer q answer → ⊥) → reading q answer blocks locks ≡ outcome 11 Nothing blocks locks
+    pub else_eleven : (IsAnswer q answer → ⊥) → reading q answer blocks locks ≡ outcome 11 Nothing blocks locks
     unfolding reading
-    else-eleven h = go (is_answer q answer) refl
+    else_eleven h = go (is_answer q answer) refl
       where
         go : (t : Bool) → is_answer q answer ≡ t → reading q answer blocks locks ≡ outcome 11 Nothing blocks locks
         go true is = absurd (h (is_answer_words q answer is))

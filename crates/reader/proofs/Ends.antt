@@ -32,26 +32,26 @@ use Rattle.reader.proofs.Asked.{reply_to, effect_of, changed_by, finished, deed_
 use Rattle.reader.proofs.Kept.{Kept}
 use Rattle.reader.proofs.Ready.{Ready, ready_of}
 use Rattle.reader.proofs.ReadBack.{After}
-use Rattle.reader.proofs.Spoken.{frame-met, mark-met, speaks, told-some, said}
+use Rattle.reader.proofs.Spoken.{frame_met, mark_met, speaks, told_some, said}
 use Rattle.reader.proofs.Codes.{inside_of}
-use Rattle.reader.proofs.Decided.{decided-called, decided-not-called, data-place}
-use Rattle.reader.proofs.Stored.{length-memory, length_locks}
+use Rattle.reader.proofs.Decided.{decided_called, decided_not_called, data_place}
+use Rattle.reader.proofs.Stored.{length_memory, length_locks}
 
 -- ---- the slot mark
 
 module _ (h : Held) (next : Card) (m l : List ℕ) (room : List ℕ) (accepted : Accepted (holding h next) m l room) {s : Served} {m' l' a' : List ℕ}
     (leaves : Leaves (mark_event (holding h next) m l room) s m' l' a') where
-  pub mark-done : h ≡ Success → (eqb s.length 0 ≡ false) × (take s.length a' ≡ sealed (0x00 ∷ []))
+  pub mark_done : h ≡ Success → (eqb s.length 0 ≡ false) × (take s.length a' ≡ sealed (0x00 ∷ []))
   unfolding marked released holding remade reply_bytes speaks
-  mark-done e =
-      let p = rw (mark-met (holding h next) m l room accepted, e) at leaves in
-      (told-some _ m l room reply.Done p refl, said _ m l room reply.Done p refl)
+  mark_done e =
+      let p = rw (mark_met (holding h next) m l room accepted, e) at leaves in
+      (told_some _ m l room reply.Done p refl, said _ m l room reply.Done p refl)
 
   pub mark_code : (code : ℕ) → h ≡ Code code → (eqb s.length 0 ≡ false) × (take s.length a' ≡ sealed (0x01 ∷ code ∷ []))
   unfolding marked released holding remade reply_bytes speaks
   mark_code code e =
-      let p = rw (mark-met (holding h next) m l room accepted, e) at leaves in
-      (told-some _ m l room (reply.Error code) p refl, said _ m l room (reply.Error code) p refl)
+      let p = rw (mark_met (holding h next) m l room accepted, e) at leaves in
+      (told_some _ m l room (reply.Error code) p refl, said _ m l room (reply.Error code) p refl)
 
 -- ---- the frame
 
@@ -65,53 +65,53 @@ pub record Meets (q : Request) (written : List ℕ) (c : Card) (memory locks fou
 module _ {q : Request} {written : List ℕ} {c : Card} {memory locks found : List ℕ} {r : Served} {m l a : List ℕ}
     (met : Meets q written c memory locks found r m l a) where
   served : Leaves (carried_out (decided c locks (frame q written)) (frame q written) memory locks found) r m l a
-  served = rw (frame-met c memory locks found met.fits.accepted (frame q written)) at met.leaves
+  served = rw (frame_met c memory locks found met.fits.accepted (frame q written)) at met.leaves
 
   -- whatever was decided, in parts
   abbrev pub Ends : Card → Effect → Reply → Type 0
   Ends d effect spoken = Leaves (replied d (memory_after d (frame q written) memory effect) (locks_after locks effect) spoken found) r m l a
 
-  pub not-called-ends : is_called c q ≡ false → Ends (decided c locks (frame q written)).card Leave reply.Silence
+  pub not_called_ends : is_called c q ≡ false → Ends (decided c locks (frame q written)).card Leave reply.Silence
   unfolding carried_out
-  not-called-ends h =
-      let p = decided-not-called c locks q written met.is met.of met.fits.same_size met.fits.asked_uid h in
+  not_called_ends h =
+      let p = decided_not_called c locks q written met.is met.of met.fits.same_size met.fits.asked_uid h in
       rw (p.0, p.1) at served
 
   called : is_called c q ≡ true → Leaves (carried_out (deed_of c locks q) (frame q written) memory locks found) r m l a
-  called h = rw (decided-called c locks q written met.is met.of met.fits.same_size met.fits.asked_uid h) at served
+  called h = rw (decided_called c locks q written met.is met.of met.fits.same_size met.fits.asked_uid h) at served
 
-  pub done-ends : is_called c q ≡ true → code_of c locks q ≡ 0 → is_held q ≡ false → Ends (changed_by q (cleared c)) (effect_of q) (reply_to q)
+  pub done_ends : is_called c q ≡ true → code_of c locks q ≡ 0 → is_held q ≡ false → Ends (changed_by q (cleared c)) (effect_of q) (reply_to q)
   unfolding carried_out deed_of finished
-  done-ends h z n = rw (eq-eqb (code_of c locks q) 0 z, n) at (called h)
+  done_ends h z n = rw (eq-eqb (code_of c locks q) 0 z, n) at (called h)
 
-  pub done-held-ends : is_called c q ≡ true → code_of c locks q ≡ 0 → is_held q ≡ true
+  pub done_held_ends : is_called c q ≡ true → code_of c locks q ≡ 0 → is_held q ≡ true
       → Ends (holding Success (changed_by q (cleared c))) (effect_of q) reply.Silence
   unfolding carried_out deed_of finished
-  done-held-ends h z n = rw (eq-eqb (code_of c locks q) 0 z, n) at (called h)
+  done_held_ends h z n = rw (eq-eqb (code_of c locks q) 0 z, n) at (called h)
 
-  pub code-ends : is_called c q ≡ true → (code_of c locks q ≡ 0 → ⊥) → is_held q ≡ false → Ends (cleared c) Leave (reply.Error (code_of c locks q))
+  pub code_ends : is_called c q ≡ true → (code_of c locks q ≡ 0 → ⊥) → is_held q ≡ false → Ends (cleared c) Leave (reply.Error (code_of c locks q))
   unfolding carried_out deed_of failed
-  code-ends h z n = rw (ne_eqb (code_of c locks q) 0 z, n) at (called h)
+  code_ends h z n = rw (ne_eqb (code_of c locks q) 0 z, n) at (called h)
 
-  pub code-held-ends : is_called c q ≡ true → (code_of c locks q ≡ 0 → ⊥) → is_held q ≡ true
+  pub code_held_ends : is_called c q ≡ true → (code_of c locks q ≡ 0 → ⊥) → is_held q ≡ true
       → Ends (holding (Code (code_of c locks q)) (cleared c)) Leave reply.Silence
   unfolding carried_out deed_of failed
-  code-held-ends h z n = rw (ne_eqb (code_of c locks q) 0 z, n) at (called h)
+  code_held_ends h z n = rw (ne_eqb (code_of c locks q) 0 z, n) at (called h)
 
   -- ---- what it leaves
 
-  pub done-after : (d : Card) (spoken : Reply) → Kept c d → code_of c locks q ≡ 0 → Ends d (effect_of q) spoken → After c memory locks r.card m l
+  pub done_after : (d : Card) (spoken : Reply) → Kept c d → code_of c locks q ≡ 0 → Ends d (effect_of q) spoken → After c memory locks r.card m l
   unfolding replied
-  done-after d spoken kept z p =
+  done_after d spoken kept z p =
       let ready : Ready c memory locks = ready_of c memory locks found met.fits.accepted in
       record {
         kept = rw p.card kept;
         same_memory =
             ap length p.memory_left
-            ∙ length-memory q written c d memory locks ready met.fits.same_size kept (data-place q written met.is met.of) met.of (inside_of c locks q z);
+            ∙ length_memory q written c d memory locks ready met.fits.same_size kept (data_place q written met.is met.of) met.of (inside_of c locks q z);
         same_locks = ap length p.locks_left ∙ length_locks q locks;
       }
 
-  pub code-after : (d : Card) (spoken : Reply) → Kept c d → Ends d Leave spoken → After c memory locks r.card m l
+  pub code_after : (d : Card) (spoken : Reply) → Kept c d → Ends d Leave spoken → After c memory locks r.card m l
   unfolding replied memory_after locks_after
-  code-after d spoken kept p = record { kept = rw p.card kept; same_memory = ap length p.memory_left; same_locks = ap length p.locks_left }
+  code_after d spoken kept p = record { kept = rw p.card kept; same_memory = ap length p.memory_left; same_locks = ap length p.locks_left }

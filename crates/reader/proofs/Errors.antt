@@ -99,16 +99,16 @@ module _ (q : Request) (answer blocks locks : List ℕ) (r : Told) (blocks' lock
         nothing_shown = λ none. absurd (never shown none);
       }
 
-  pub error-shows-nothing : Reads (reading q answer blocks locks) r blocks' locks' → ErrorShowsNothing answer blocks locks r blocks' locks'
-  error-shows-nothing = shows_nothing (way q answer blocks locks)
+  pub error_shows_nothing : Reads (reading q answer blocks locks) r blocks' locks' → ErrorShowsNothing answer blocks locks r blocks' locks'
+  error_shows_nothing = shows_nothing (way q answer blocks locks)
 
-  changes-nothing : {o : Outcome} → Way q answer blocks locks o → Reads o r blocks' locks' → (r.number ≡ 0 → ⊥)
+  changes_nothing : {o : Outcome} → Way q answer blocks locks o → Reads o r blocks' locks' → (r.number ≡ 0 → ⊥)
       → (r.reading ≡ Nothing) × (blocks' ≡ blocks) × (locks' ≡ locks)
   unfolding outcome shown_in
-  changes-nothing (Refuses n other) p h = (p.reading, p.blocks_left, p.locks_left)
-  changes-nothing (Tells flags) p h = absurd (h p.number)
-  changes-nothing (Shows flags) p h = absurd (h p.number)
+  changes_nothing (Refuses n other) p h = (p.reading, p.blocks_left, p.locks_left)
+  changes_nothing (Tells flags) p h = absurd (h p.number)
+  changes_nothing (Shows flags) p h = absurd (h p.number)
 
-  pub refused-changes-nothing : Reads (reading q answer blocks locks) r blocks' locks' → (r.number ≡ 0 → ⊥)
+  pub refused_changes_nothing : Reads (reading q answer blocks locks) r blocks' locks' → (r.number ≡ 0 → ⊥)
       → (r.reading ≡ Nothing) × (blocks' ≡ blocks) × (locks' ≡ locks)
-  refused-changes-nothing = changes-nothing (way q answer blocks locks)
+  refused_changes_nothing = changes_nothing (way q answer blocks locks)

@@ -24,29 +24,29 @@ use Rattle.reader.specs.Shown.{is_called, is_held, code_of, Does}
 use Rattle.reader.specs.Exchange.{Fits, Sent, ReadAs, Exchange}
 use Rattle.reader.proofs.Asked.{reply_to, effect_of, changed_by}
 use Rattle.reader.proofs.Kept.{changed_kept, cleared_kept, holding_kept}
-use Rattle.reader.proofs.Spoken.{speaks, told-some, said, told_none}
+use Rattle.reader.proofs.Spoken.{speaks, told_some, said, told_none}
 use Rattle.reader.proofs.Codes.{reply_speaks}
 use Rattle.reader.proofs.Lengths.{make_served}
-use Rattle.reader.proofs.ReadBack.{held-read, done-read-back, code-read-back}
-use Rattle.reader.proofs.Does.{does-now, does-held}
-use Rattle.reader.proofs.Ends.{mark-done, mark_code, Meets, Ends, not-called-ends, done-ends, done-held-ends, code-ends, code-held-ends, done-after, code-after}
+use Rattle.reader.proofs.ReadBack.{held_read, done_read_back, code_read_back}
+use Rattle.reader.proofs.Does.{does_now, does_held}
+use Rattle.reader.proofs.Ends.{mark_done, mark_code, Meets, Ends, not_called_ends, done_ends, done_held_ends, code_ends, code_held_ends, done_after, code_after}
 
 module _ {q : Request} {written : List ℕ} {c : Card} {memory locks found : List ℕ} {r : Served} {m l a : List ℕ}
     (met : Meets q written c memory locks found r m l a) where
   -- ---- its answer, at once
 
-  done-now : is_called c q ≡ true → code_of c locks q ≡ 0 → is_held q ≡ false → ReadAs q (take r.length a) (code_of c locks q) r.card m l
-  done-now h z n =
+  done_now : is_called c q ≡ true → code_of c locks q ≡ 0 → is_held q ≡ false → ReadAs q (take r.length a) (code_of c locks q) r.card m l
+  done_now h z n =
       let next : Card = changed_by q (cleared c) in
-      let p : Ends met next (effect_of q) (reply_to q) = done-ends met h z n in
-      held-read met.fits met.is (done-after met next (reply_to q) (changed_kept q c) z p) (take r.length a) z (said next _ _ found (reply_to q) p (reply_speaks q))
+      let p : Ends met next (effect_of q) (reply_to q) = done_ends met h z n in
+      held_read met.fits met.is (done_after met next (reply_to q) (changed_kept q c) z p) (take r.length a) z (said next _ _ found (reply_to q) p (reply_speaks q))
 
-  code-now : is_called c q ≡ true → (code_of c locks q ≡ 0 → ⊥) → is_held q ≡ false → ReadAs q (take r.length a) (code_of c locks q) r.card m l
+  code_now : is_called c q ≡ true → (code_of c locks q ≡ 0 → ⊥) → is_held q ≡ false → ReadAs q (take r.length a) (code_of c locks q) r.card m l
   unfolding memory_after locks_after reply_bytes speaks
-  code-now h z n =
+  code_now h z n =
       let error : Reply = reply.Error (code_of c locks q) in
-      let p : Ends met (cleared c) Leave error = code-ends met h z n in
-      code-read-back met.fits met.is (code-after met (cleared c) error (cleared_kept c) p) (take r.length a) z (said (cleared c) memory locks found error p refl)
+      let p : Ends met (cleared c) Leave error = code_ends met h z n in
+      code_read_back met.fits met.is (code_after met (cleared c) error (cleared_kept c) p) (take r.length a) z (said (cleared c) memory locks found error p refl)
 
   -- ---- and at the slot mark
 
@@ -55,39 +55,39 @@ module _ {q : Request} {written : List ℕ} {c : Card} {memory locks found : Lis
       (room : List ℕ) → Accepted r.card m l room → (s : Served) (m' l' a' : List ℕ) → Leaves (mark_event r.card m l room) s m' l' a'
       → (eqb s.length 0 ≡ false) × ReadAs q (take s.length a') (code_of c locks q) r.card m l
 
-  done-later : is_called c q ≡ true → code_of c locks q ≡ 0 → is_held q ≡ true → Released
+  done_later : is_called c q ≡ true → code_of c locks q ≡ 0 → is_held q ≡ true → Released
   unfolding replied
-  done-later h z n room accepted s m' l' a' marks =
+  done_later h z n room accepted s m' l' a' marks =
       let next : Card = changed_by q (cleared c) in
-      let p : Ends met (holding Success next) (effect_of q) reply.Silence = done-held-ends met h z n in
-      let after = done-after met (holding Success next) reply.Silence (holding_kept c next Success (changed_kept q c)) z p in
-      let t = mark-done Success next m l room (rw p.card at accepted) (rw p.card at marks) refl in
-      (t.0, done-read-back met.fits met.is after (take s.length a') z n t.1)
+      let p : Ends met (holding Success next) (effect_of q) reply.Silence = done_held_ends met h z n in
+      let after = done_after met (holding Success next) reply.Silence (holding_kept c next Success (changed_kept q c)) z p in
+      let t = mark_done Success next m l room (rw p.card at accepted) (rw p.card at marks) refl in
+      (t.0, done_read_back met.fits met.is after (take s.length a') z n t.1)
 
-  code-later : is_called c q ≡ true → (code_of c locks q ≡ 0 → ⊥) → is_held q ≡ true → Released
+  code_later : is_called c q ≡ true → (code_of c locks q ≡ 0 → ⊥) → is_held q ≡ true → Released
   unfolding replied
-  code-later h z n room accepted s m' l' a' marks =
+  code_later h z n room accepted s m' l' a' marks =
       let held : Held = Code (code_of c locks q) in
-      let p : Ends met (holding held (cleared c)) Leave reply.Silence = code-held-ends met h z n in
-      let after = code-after met (holding held (cleared c)) reply.Silence (holding_kept c (cleared c) held (cleared_kept c)) p in
+      let p : Ends met (holding held (cleared c)) Leave reply.Silence = code_held_ends met h z n in
+      let after = code_after met (holding held (cleared c)) reply.Silence (holding_kept c (cleared c) held (cleared_kept c)) p in
       let t = mark_code held (cleared c) m l room (rw p.card at accepted) (rw p.card at marks) (code_of c locks q) refl in
-      (t.0, code-read-back met.fits met.is after (take s.length a') z t.1)
+      (t.0, code_read_back met.fits met.is after (take s.length a') z t.1)
 
   -- ---- "answers at all"
 
   silence : (a : Bool) (b : Bool) → is_called c q ≡ a → is_held q ≡ b → eqb r.length 0 ≡ (not a || b)
   unfolding speaks
-  silence false b h n = told_none _ _ _ found (not-called-ends met h)
+  silence false b h n = told_none _ _ _ found (not_called_ends met h)
   silence true true h n = go (ℕ_discrete (code_of c locks q) 0)
     where
       go : Dec (code_of c locks q ≡ 0) → eqb r.length 0 ≡ true
-      go (yes z) = told_none _ _ _ found (done-held-ends met h z n)
-      go (no z) = told_none _ _ _ found (code-held-ends met h z n)
+      go (yes z) = told_none _ _ _ found (done_held_ends met h z n)
+      go (no z) = told_none _ _ _ found (code_held_ends met h z n)
   silence true false h n = go (ℕ_discrete (code_of c locks q) 0)
     where
       go : Dec (code_of c locks q ≡ 0) → eqb r.length 0 ≡ false
-      go (yes z) = told-some _ _ _ found (reply_to q) (done-ends met h z n) (reply_speaks q)
-      go (no z) = told-some _ _ _ found (reply.Error (code_of c locks q)) (code-ends met h z n) refl
+      go (yes z) = told_some _ _ _ found (reply_to q) (done_ends met h z n) (reply_speaks q)
+      go (no z) = told_some _ _ _ found (reply.Error (code_of c locks q)) (code_ends met h z n) refl
 
   -- ---- an effect that leaves all
 
@@ -103,24 +103,24 @@ module _ {q : Request} {written : List ℕ} {c : Card} {memory locks found : Lis
         held = λ h n. later h n (ℕ_discrete (code_of c locks q) 0);
         does = λ h z. did h z (is_held q) refl;
         refused_leaves = λ h z. left h z (is_held q) refl;
-        others_leave = λ h. kept_by _ _ (not-called-ends met h);
+        others_leave = λ h. kept_by _ _ (not_called_ends met h);
       }
     where
       did : is_called c q ≡ true → code_of c locks q ≡ 0 → (b : Bool) → is_held q ≡ b → Does q written c memory locks r.card m l
-      did h z true n = does-held met z h n
-      did h z false n = does-now met z h n
+      did h z true n = does_held met z h n
+      did h z false n = does_now met z h n
 
       left : is_called c q ≡ true → (code_of c locks q ≡ 0 → ⊥) → (b : Bool) → is_held q ≡ b → (m ≡ memory) × (l ≡ locks)
-      left h z true n = kept_by _ _ (code-held-ends met h z n)
-      left h z false n = kept_by _ _ (code-ends met h z n)
+      left h z true n = kept_by _ _ (code_held_ends met h z n)
+      left h z false n = kept_by _ _ (code_ends met h z n)
 
       now : is_called c q ≡ true → is_held q ≡ false → Dec (code_of c locks q ≡ 0) → ReadAs q (take r.length a) (code_of c locks q) r.card m l
-      now h n (yes z) = done-now h z n
-      now h n (no z) = code-now h z n
+      now h n (yes z) = done_now h z n
+      now h n (no z) = code_now h z n
 
       later : is_called c q ≡ true → is_held q ≡ true → Dec (code_of c locks q ≡ 0) → Released
-      later h n (yes z) = done-later h z n
-      later h n (no z) = code-later h z n
+      later h n (yes z) = done_later h z n
+      later h n (no z) = code_later h z n
 
 -- whatever `make` allows, and whatever the card's promise allows for it
 pub sent_meets : (q : Request) (written : List ℕ) (c : Card) (memory locks found : List ℕ) → Fits c memory locks found q

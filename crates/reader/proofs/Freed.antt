@@ -18,7 +18,7 @@ use Rattle.play.specs.Events.{mark_event, Leaves}
 use Rattle.reader.specs.declared.Request.{Request}
 use Rattle.reader.proofs.Asked.{changed_by}
 use Rattle.reader.proofs.Kept.{either_holds}
-use Rattle.reader.proofs.Spoken.{mark-met, told_none}
+use Rattle.reader.proofs.Spoken.{mark_met, told_none}
 
 pub record Freed (c : Card) : Type 0 where
   pub held : c.held ≡ Free
@@ -57,4 +57,4 @@ marked_still c p = ap (released c) p.held ∙ ap (moved c) p.sequence
 
 pub mark_silent : (c : Card) (m l room : List ℕ) → Accepted c m l room → Freed c → {s : Served} {m' l' a' : List ℕ}
     → Leaves (mark_event c m l room) s m' l' a' → eqb s.length 0 ≡ true
-mark_silent c m l room accepted p leaves = told_none c m l room (rw (mark-met c m l room accepted, marked_still c p) at leaves)
+mark_silent c m l room accepted p leaves = told_none c m l room (rw (mark_met c m l room accepted, marked_still c p) at leaves)

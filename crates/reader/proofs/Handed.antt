@@ -21,25 +21,25 @@ use Rattle.reader.proofs.Counts.{count_most}
 -- ---- 20 and 23
 
 module _ (q : Request) (is : reads_blocks q ≡ true) where
-  pub earned-blocks : earned q ≡ 3 + count q * (lead_of q + q.size)
+  pub earned_blocks : earned q ≡ 3 + count q * (lead_of q + q.size)
   unfolding earned
-  earned-blocks = rw is refl
+  earned_blocks = rw is refl
 
-  pub block-bytes-blocks : block_bytes q ≡ count q * q.size
+  pub block_bytes_blocks : block_bytes q ≡ count q * q.size
   unfolding block_bytes
-  block-bytes-blocks = rw is refl
+  block_bytes_blocks = rw is refl
 
-  pub lock-bytes-blocks : lock_bytes q ≡ count q * lead_of q
+  pub lock_bytes_blocks : lock_bytes q ≡ count q * lead_of q
   unfolding lock_bytes
-  lock-bytes-blocks = rw is refl
+  lock_bytes_blocks = rw is refl
 
-  pub blocks-few : is_request q ≡ true → q.n ≤ 255 → count q * q.size ≤ 8192
-  blocks-few asked n = mul-le-mul (count_most q n) (size_most q asked)
+  pub blocks_few : is_request q ≡ true → q.n ≤ 255 → count q * q.size ≤ 8192
+  blocks_few asked n = mul-le-mul (count_most q n) (size_most q asked)
 
-  pub hands-blocks : (part blocks locks : List ℕ) {lead n : ℕ} {r : Reading} {b l : List ℕ} → lead ≡ lead_of q → n ≡ count q
+  pub hands_blocks : (part blocks locks : List ℕ) {lead n : ℕ} {r : Reading} {b l : List ℕ} → lead ≡ lead_of q → n ≡ count q
       → Splits part lead q.size n blocks locks r b l → Hands (shown_in q part blocks locks) r b l
   unfolding shown_in outcome reading_in block_bytes block_bytes_in lock_bytes_in
-  hands-blocks part blocks locks first second p =
+  hands_blocks part blocks locks first second p =
       record {
         reading = rw (is, ← second) p.reading;
         blocks_left = rw (is, ← first, ← second) p.blocks_left;
@@ -49,47 +49,47 @@ module _ (q : Request) (is : reads_blocks q ≡ true) where
 -- ---- the others
 
 module _ (q : Request) (is : reads_blocks q ≡ false) where
-  pub earned-locks : q.command ≡ 0x2c → earned q ≡ 3 + count q
+  pub earned_locks : q.command ≡ 0x2c → earned q ≡ 3 + count q
   unfolding earned
-  earned-locks c = rw (is, eq-eqb q.command 0x2c c) refl
+  earned_locks c = rw (is, eq-eqb q.command 0x2c c) refl
 
-  pub lock-bytes-locks : q.command ≡ 0x2c → lock_bytes q ≡ count q
+  pub lock_bytes_locks : q.command ≡ 0x2c → lock_bytes q ≡ count q
   unfolding lock_bytes
-  lock-bytes-locks c = rw (is, eq-eqb q.command 0x2c c) refl
+  lock_bytes_locks c = rw (is, eq-eqb q.command 0x2c c) refl
 
-  pub hands-locks : (part blocks locks : List ℕ) {r : Reading} {l : List ℕ} → q.command ≡ 0x2c → length part + 3 ≡ earned q
+  pub hands_locks : (part blocks locks : List ℕ) {r : Reading} {l : List ℕ} → q.command ≡ 0x2c → length part + 3 ≡ earned q
       → Copies part locks r l → Hands (shown_in q part blocks locks) r blocks l
   unfolding shown_in outcome reading_in block_bytes_in lock_bytes_in
-  hands-locks part blocks locks c long p =
-      let all : length part ≡ lock_bytes q = omega (arith, earned-locks c, lock-bytes-locks c) in
+  hands_locks part blocks locks c long p =
+      let all : length part ≡ lock_bytes q = omega (arith, earned_locks c, lock_bytes_locks c) in
       record {
         reading = rw (is, eq-eqb q.command 0x2c c, ← all) p.reading;
         blocks_left = rw is (sym (over_none blocks));
         locks_left = rw (is, eq-eqb q.command 0x2c c) p.leaves;
       }
 
-  pub earned-information : (q.command ≡ 0x2c → ⊥) → q.command ≡ 0x2b → earned q ≡ 17
+  pub earned_information : (q.command ≡ 0x2c → ⊥) → q.command ≡ 0x2b → earned q ≡ 17
   unfolding earned
-  earned-information d c = rw (is, ne_eqb q.command 0x2c d, eq-eqb q.command 0x2b c) refl
+  earned_information d c = rw (is, ne_eqb q.command 0x2c d, eq-eqb q.command 0x2b c) refl
 
-  pub hands-information : (part blocks locks : List ℕ) {r : Reading} → (q.command ≡ 0x2c → ⊥) → q.command ≡ 0x2b
+  pub hands_information : (part blocks locks : List ℕ) {r : Reading} → (q.command ≡ 0x2c → ⊥) → q.command ≡ 0x2b
       → r ≡ System (information_in part) → Hands (shown_in q part blocks locks) r blocks locks
   unfolding shown_in outcome reading_in block_bytes_in lock_bytes_in
-  hands-information part blocks locks d c p =
+  hands_information part blocks locks d c p =
       record {
         reading = rw (is, ne_eqb q.command 0x2c d, eq-eqb q.command 0x2b c) p;
         blocks_left = rw is (sym (over_none blocks));
         locks_left = rw (is, ne_eqb q.command 0x2c d) (sym (over_none locks));
       }
 
-  pub earned-nothing : (q.command ≡ 0x2c → ⊥) → (q.command ≡ 0x2b → ⊥) → earned q ≡ 3
+  pub earned_nothing : (q.command ≡ 0x2c → ⊥) → (q.command ≡ 0x2b → ⊥) → earned q ≡ 3
   unfolding earned
-  earned-nothing d c = rw (is, ne_eqb q.command 0x2c d, ne_eqb q.command 0x2b c) refl
+  earned_nothing d c = rw (is, ne_eqb q.command 0x2c d, ne_eqb q.command 0x2b c) refl
 
-  pub hands-nothing : (part blocks locks : List ℕ) {r : Reading} → (q.command ≡ 0x2c → ⊥) → (q.command ≡ 0x2b → ⊥)
+  pub hands_nothing : (part blocks locks : List ℕ) {r : Reading} → (q.command ≡ 0x2c → ⊥) → (q.command ≡ 0x2b → ⊥)
       → r ≡ Done → Hands (shown_in q part blocks locks) r blocks locks
   unfolding shown_in outcome reading_in block_bytes_in lock_bytes_in
-  hands-nothing part blocks locks d c p =
+  hands_nothing part blocks locks d c p =
       record {
         reading = rw (is, ne_eqb q.command 0x2c d, ne_eqb q.command 0x2b c) p;
         blocks_left = rw is (sym (over_none blocks));

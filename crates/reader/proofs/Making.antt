@@ -70,42 +70,42 @@ length_head_most q = omega (arith, length_address_most q)
 -- ---- the body, by the tests of the command
 
 module _ (q : Request) (written e : List ℕ) (at : ℕ) (room : at + 33 ≤ length e) where
-  abbrev isBlock : Bool
-  isBlock = eqb q.command 0x20 || eqb q.command 0x22
+  abbrev is_block : Bool
+  is_block = eqb q.command 0x20 || eqb q.command 0x22
 
-  abbrev isBlocks : Bool
-  isBlocks = eqb q.command 0x23 || eqb q.command 0x2c
+  abbrev is_blocks : Bool
+  is_blocks = eqb q.command 0x23 || eqb q.command 0x2c
 
   abbrev is_value : Bool
   is_value = eqb q.command 0x27 || eqb q.command 0x29
 
-  pub puts-block : isBlock ≡ true → PutsAt at (body q written) e (at + 1) (set e at q.first)
+  pub puts_block : is_block ≡ true → PutsAt at (body q written) e (at + 1) (set e at q.first)
   unfolding body
-  puts-block h = rw h (puts_byte at q.first e (omega arith))
+  puts_block h = rw h (puts_byte at q.first e (omega arith))
 
-  pub puts-written : {left : List ℕ} → isBlock ≡ false → q.command ≡ 0x21 → length written ≤ 32
+  pub puts_written : {left : List ℕ} → is_block ≡ false → q.command ≡ 0x21 → length written ≤ 32
       → left ≡ placed (at + 1) (take (length written) (drop 0 written)) (set e at q.first)
       → PutsAt at (body q written) e (at + 1 + length written) left
   unfolding body
-  puts-written {left} h is few told =
+  puts_written {left} h is few told =
       let all : take (length written) written ≡ written = take-length written in
       let rest : PutsAt (at + 1) written (set e at q.first) (at + 1 + length written) left =
       record { next = refl; leaves = told ∙ ap (λ (s : List ℕ). placed (at + 1) s (set e at q.first)) all } in
       rw (h, eq-eqb q.command 0x21 is) (puts_then (puts_byte at q.first e (omega arith)) rest (omega arith))
 
-  pub puts-blocks : isBlock ≡ false → (q.command ≡ 0x21 → ⊥) → isBlocks ≡ true
+  pub puts_blocks : is_block ≡ false → (q.command ≡ 0x21 → ⊥) → is_blocks ≡ true
       → PutsAt at (body q written) e (at + 2) (set (set e at q.first) (at + 1) q.n)
   unfolding body
-  puts-blocks h k l = rw (h, ne_eqb q.command 0x21 k, l) (puts_bytes at q.first q.n e (omega arith))
+  puts_blocks h k l = rw (h, ne_eqb q.command 0x21 k, l) (puts_bytes at q.first q.n e (omega arith))
 
-  pub puts-value : isBlock ≡ false → (q.command ≡ 0x21 → ⊥) → isBlocks ≡ false → is_value ≡ true
+  pub puts_value : is_block ≡ false → (q.command ≡ 0x21 → ⊥) → is_blocks ≡ false → is_value ≡ true
       → PutsAt at (body q written) e (at + 1) (set e at q.value)
   unfolding body
-  puts-value h k l m = rw (h, ne_eqb q.command 0x21 k, l, m) (puts_byte at q.value e (omega arith))
+  puts_value h k l m = rw (h, ne_eqb q.command 0x21 k, l, m) (puts_byte at q.value e (omega arith))
 
-  pub puts-no-body : isBlock ≡ false → (q.command ≡ 0x21 → ⊥) → isBlocks ≡ false → is_value ≡ false → PutsAt at (body q written) e at e
+  pub puts_no_body : is_block ≡ false → (q.command ≡ 0x21 → ⊥) → is_blocks ≡ false → is_value ≡ false → PutsAt at (body q written) e at e
   unfolding body
-  puts-no-body h k l m = rw (h, ne_eqb q.command 0x21 k, l, m) (puts_none at e)
+  puts_no_body h k l m = rw (h, ne_eqb q.command 0x21 k, l, m) (puts_none at e)
 
 -- ---- the whole
 

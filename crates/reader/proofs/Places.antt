@@ -95,14 +95,14 @@ asked_of_size q size f at same = go (ℕ_discrete q.command 0x21)
 
 module _ (q : Request) (written : List ℕ) (is : is_request q ≡ true) (fits : data_fits q (length written) ≡ true) where
   -- a body has the length that the card asks for, at whatever place of whatever frame
-  length-body : (f : List ℕ) (at : ℕ)
+  length_body : (f : List ℕ) (at : ℕ)
       → (length (body q written) ≡ body_asked f at q.command q.size) × (body_asked f at q.command q.size ≤ 1 + q.size)
   unfolding body body_asked width data_fits
-  length-body f at =
+  length_body f at =
       let k : ℕ = q.command in
       length_of_bools (eqb k 0x20 || eqb k 0x22) (eqb k 0x21) (eqb k 0x23 || eqb k 0x2c) (eqb k 0x27 || eqb k 0x29)
       q.first q.n q.value q.size written fits (parts_of_request q is).2
 
-  pub body-length : body_length (frame q written) (body_at q) ≡ body_asked (frame q written) (body_at q) q.command q.size
+  pub body_length_lem : body_length (frame q written) (body_at q) ≡ body_asked (frame q written) (body_at q) q.command q.size
   unfolding body_length
-  body-length = omega (arith, length_of_frame q written, (length-body (frame q written) (body_at q)).0)
+  body_length_lem = omega (arith, length_of_frame q written, (length_body (frame q written) (body_at q)).0)

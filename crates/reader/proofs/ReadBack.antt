@@ -21,25 +21,25 @@ use Rattle.reader.specs.Exchange.{Fits, ReadAs}
 use Rattle.reader.proofs.Asked.{reply_to}
 use Rattle.reader.proofs.Kept.{Kept}
 use Rattle.reader.proofs.Ready.{Ready, ready_of}
-use Rattle.reader.proofs.Codes.{inside_of, inside_kept, held-done, held-reading, held_bytes, held-marks}
-use Rattle.reader.proofs.Replies.{success-read, error-read, done-read}
+use Rattle.reader.proofs.Codes.{inside_of, inside_kept, held_done, held_reading, held_bytes, held_marks}
+use Rattle.reader.proofs.Replies.{success_read, error_read, done_read}
 
 -- ---- what is read is shown
 
 module _ (code : ℕ) (c : Card) (memory locks : List ℕ) (q : Request) (answer : List ℕ) (found found' : List ℕ) where
-  shows-held : code ≡ 0
+  shows_held : code ≡ 0
       → reading q answer found found' ≡ outcome 0 (reading_held c q) (over (bytes_held memory q) found) (over (marks_held locks q) found')
       → (r : Told) (blocks marks : List ℕ) → Reads (reading q answer found found') r blocks marks → Shows code c memory locks q found found' r blocks marks
   unfolding outcome shown_reading shown_bytes
-  shows-held z e r blocks marks reads =
+  shows_held z e r blocks marks reads =
       let p : Reads (outcome 0 (reading_held c q) (over (bytes_held memory q) found) (over (marks_held locks q) found')) r blocks marks = rw e at reads in
       let t : eqb code 0 ≡ true = eq-eqb code 0 z in
       record { number = p.number; reading = rw t p.reading; blocks_left = rw t p.blocks_left; locks_left = rw t p.locks_left }
 
-  shows-code : (code ≡ 0 → ⊥) → reading q answer found found' ≡ outcome 0 (Error code) found found'
+  shows_code : (code ≡ 0 → ⊥) → reading q answer found found' ≡ outcome 0 (Error code) found found'
       → (r : Told) (blocks marks : List ℕ) → Reads (reading q answer found found') r blocks marks → Shows code c memory locks q found found' r blocks marks
   unfolding outcome shown_reading shown_bytes
-  shows-code z e r blocks marks reads =
+  shows_code z e r blocks marks reads =
       let p : Reads (outcome 0 (Error code) found found') r blocks marks = rw e at reads in
       let t : eqb code 0 ≡ false = ne_eqb code 0 z in
       record { number = p.number; reading = rw t p.reading; blocks_left = rw t p.blocks_left; locks_left = rw t p.locks_left }
@@ -75,18 +75,18 @@ module _ {q : Request} {c : Card} {memory locks found : List ℕ} {d : Card} {m 
   wide : d.uid < 2 ^ 64
   wide = rw after.kept.uid fits.card_uid
 
-  pub held-read : code_of c locks q ≡ 0 → answer ≡ sealed (reply_bytes d m l (reply_to q)) → ReadAs q answer (code_of c locks q) d m l
-  held-read z e found found' b k =
-      shows-held (code_of c locks q) d m l q answer found found' z
-      (rw e (success-read d m l q is size stored marks some sized wide found found' b k (inside_kept c d q after.kept (inside_of c locks q z))))
+  pub held_read : code_of c locks q ≡ 0 → answer ≡ sealed (reply_bytes d m l (reply_to q)) → ReadAs q answer (code_of c locks q) d m l
+  held_read z e found found' b k =
+      shows_held (code_of c locks q) d m l q answer found found' z
+      (rw e (success_read d m l q is size stored marks some sized wide found found' b k (inside_kept c d q after.kept (inside_of c locks q z))))
 
-  pub done-read-back : code_of c locks q ≡ 0 → is_held q ≡ true → answer ≡ sealed (0x00 ∷ []) → ReadAs q answer (code_of c locks q) d m l
-  done-read-back z h e found found' b k =
-      shows-held (code_of c locks q) d m l q answer found found' z
-      (rw (e, held-reading q h d, held_bytes q h m, held-marks q h l, over_none found, over_none found')
-      (done-read d m l q is size stored marks some sized wide found found' b k (held-done q h)))
+  pub done_read_back : code_of c locks q ≡ 0 → is_held q ≡ true → answer ≡ sealed (0x00 ∷ []) → ReadAs q answer (code_of c locks q) d m l
+  done_read_back z h e found found' b k =
+      shows_held (code_of c locks q) d m l q answer found found' z
+      (rw (e, held_reading q h d, held_bytes q h m, held_marks q h l, over_none found, over_none found')
+      (done_read d m l q is size stored marks some sized wide found found' b k (held_done q h)))
 
-  pub code-read-back : (code_of c locks q ≡ 0 → ⊥) → answer ≡ sealed (0x01 ∷ code_of c locks q ∷ []) → ReadAs q answer (code_of c locks q) d m l
-  code-read-back z e found found' b k =
-      shows-code (code_of c locks q) d m l q answer found found' z
-      (rw e (error-read d m l q is size stored marks some sized wide found found' b k (code_of c locks q)))
+  pub code_read_back : (code_of c locks q ≡ 0 → ⊥) → answer ≡ sealed (0x01 ∷ code_of c locks q ∷ []) → ReadAs q answer (code_of c locks q) d m l
+  code_read_back z e found found' b k =
+      shows_code (code_of c locks q) d m l q answer found found' z
+      (rw e (error_read d m l q is size stored marks some sized wide found found' b k (code_of c locks q)))

@@ -19,7 +19,7 @@ use Rattle.reader.specs.Request.{has_option, is_request}
 use Rattle.reader.specs.Reading.{reads_blocks, block_bytes, lock_bytes, earned, reading_in, block_bytes_in, lock_bytes_in, shown_in, outcome, reading}
 use Rattle.reader.specs.Shown.{moves_blocks, is_outside, reading_held, bytes_held, marks_held}
 use Rattle.reader.proofs.Asked.{reply_to}
-use Rattle.reader.proofs.AnswerRead.{part-read, code_read}
+use Rattle.reader.proofs.AnswerRead.{part_read, code_read}
 use Rattle.reader.proofs.ReplyParts.{Kind, One, Several, System, Locks, Plain, kind, Tells, tells-plain, tells}
 
 module _ (c : Card) (memory locks : List ℕ) (q : Request) (is : is_request q ≡ true) (same : moves_blocks q ≡ true → q.size ≡ c.size)
@@ -29,38 +29,38 @@ module _ (c : Card) (memory locks : List ℕ) (q : Request) (is : is_request q �
   told outside = tells c memory locks q same stored marks outside some sized wide
 
   -- "read back as what the card holds"
-  pub success-read : is_outside c q ≡ false
+  pub success_read : is_outside c q ≡ false
       → reading q (sealed (reply_bytes c memory locks (reply_to q))) found found'
       ≡ outcome 0 (reading_held c q) (over (bytes_held memory q) found) (over (marks_held locks q) found')
   unfolding shown_in
-  success-read outside = go (told outside)
+  success_read outside = go (told outside)
     where
       go : (part : List ℕ) × Tells c memory locks q part
           → reading q (sealed (reply_bytes c memory locks (reply_to q))) found found'
           ≡ outcome 0 (reading_held c q) (over (bytes_held memory q) found) (over (marks_held locks q) found')
       go (part, t) =
-          rw (t.reply, part-read q is found found' room room' part t.long t.all, t.read, t.blocks, t.marked) refl
+          rw (t.reply, part_read q is found found' room room' part t.long t.all, t.read, t.blocks, t.marked) refl
 
   -- of the length that the request earns
-  pub length-reply : is_outside c q ≡ false → length (reply_bytes c memory locks (reply_to q)) + 2 ≡ earned q
-  length-reply outside = go (told outside)
+  pub length_reply : is_outside c q ≡ false → length (reply_bytes c memory locks (reply_to q)) + 2 ≡ earned q
+  length_reply outside = go (told outside)
     where
       go : (part : List ℕ) × Tells c memory locks q part → length (reply_bytes c memory locks (reply_to q)) + 2 ≡ earned q
       go (part, t) = rw t.reply (omega (arith, t.long))
 
-  pub error-read : (code : ℕ) → reading q (sealed (0x01 ∷ code ∷ [])) found found' ≡ outcome 0 (Error code) found found'
-  error-read = code_read q is found found' room room'
+  pub error_read : (code : ℕ) → reading q (sealed (0x01 ∷ code ∷ [])) found found' ≡ outcome 0 (Error code) found found'
+  error_read = code_read q is found found' room room'
 
   -- ---- success alone, for the commands that have no more to tell
 
-  shown-plain : eqb q.command 0x20 ≡ false → eqb q.command 0x23 ≡ false → eqb q.command 0x2b ≡ false → eqb q.command 0x2c ≡ false
+  shown_plain : eqb q.command 0x20 ≡ false → eqb q.command 0x23 ≡ false → eqb q.command 0x2b ≡ false → eqb q.command 0x2c ≡ false
       → shown_in q [] found found' ≡ outcome 0 Done found found'
   unfolding shown_in reading_in reads_blocks block_bytes_in lock_bytes_in
-  shown-plain a b d e = rw (a, b, e, d, over_none found, over_none found') refl
+  shown_plain a b d e = rw (a, b, e, d, over_none found, over_none found') refl
 
-  pub done-read : reply_to q ≡ Success → reading q (sealed (0x00 ∷ [])) found found' ≡ outcome 0 Done found found'
+  pub done_read : reply_to q ≡ Success → reading q (sealed (0x00 ∷ [])) found found' ≡ outcome 0 Done found found'
   unfolding reply_to
-  done-read done = go (kind q.command)
+  done_read done = go (kind q.command)
     where
       go : Kind q.command → reading q (sealed (0x00 ∷ [])) found found' ≡ outcome 0 Done found found'
       go (One e) = let more : reply_to q ≡ Blocks q.first 1 (has_option q) = rw e refl in cc (done, more)
@@ -69,4 +69,4 @@ module _ (c : Card) (memory locks : List ℕ) (q : Request) (is : is_request q �
       go (Locks e) = let more : reply_to q ≡ Status q.first (q.n + 1) = rw e refl in cc (done, more)
       go (Plain a b d e) =
           let t : Tells c memory locks q [] = tells-plain c memory locks q a b d e in
-          part-read q is found found' room room' [] t.long t.all ∙ shown-plain a b d e
+          part_read q is found found' room room' [] t.long t.all ∙ shown_plain a b d e

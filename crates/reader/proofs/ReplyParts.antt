@@ -20,7 +20,7 @@ use Rattle.reader.specs.Request.{has_option}
 use Rattle.reader.specs.Reading.{reads_blocks, count, lead_of, block_bytes, lock_bytes, earned, information_in, reading_in, block_bytes_in, lock_bytes_in}
 use Rattle.reader.specs.Shown.{moves_blocks, is_outside, blocks_held, locks_held, information_held, reading_held, bytes_held, marks_held}
 use Rattle.reader.proofs.Asked.{reply_to}
-use Rattle.reader.proofs.Apart.{length-read, blocks-of-card, leads-of-card}
+use Rattle.reader.proofs.Apart.{length_read, blocks_of_card, leads_of_card}
 
 -- ---- what a command tells: one block, several, the system's information, lock bytes, or success alone
 
@@ -105,11 +105,11 @@ module _ (c : Card) (memory locks : List ℕ) (q : Request) where
         let size : q.size ≡ c.size = same (rw e refl) in
         record {
           reply = rw e refl;
-          long = rw (e, size, length-read memory locks c.size option q.first 1 (inside 1 h)) (omega arith);
+          long = rw (e, size, length_read memory locks c.size option q.first 1 (inside 1 h)) (omega arith);
           all = λ f. absurd (omega arith);
           read = rw (e, one-mul) refl;
-          blocks = rw (e, size) (blocks-of-card memory locks c.size option q.first 1 (inside 1 h));
-          marked = rw (e, size) (leads-of-card memory locks c.size option q.first 1 (inside 1 h) (omega arith));
+          blocks = rw (e, size) (blocks_of_card memory locks c.size option q.first 1 (inside 1 h));
+          marked = rw (e, size) (leads_of_card memory locks c.size option q.first 1 (inside 1 h) (omega arith));
         }
 
     tells-several : q.command ≡ 0x23 → Tells (blocks_read memory locks c.size option q.first (q.n + 1))
@@ -120,11 +120,11 @@ module _ (c : Card) (memory locks : List ℕ) (q : Request) where
         let size : q.size ≡ c.size = same (rw e refl) in
         record {
           reply = rw e refl;
-          long = rw (e, size, length-read memory locks c.size option q.first n (inside n h)) (omega arith);
+          long = rw (e, size, length_read memory locks c.size option q.first n (inside n h)) (omega arith);
           all = λ f. absurd (omega arith);
           read = rw e refl;
-          blocks = rw (e, size) (blocks-of-card memory locks c.size option q.first n (inside n h));
-          marked = rw (e, size, or-false) (leads-of-card memory locks c.size option q.first n (inside n h) (omega arith));
+          blocks = rw (e, size) (blocks_of_card memory locks c.size option q.first n (inside n h));
+          marked = rw (e, size, or-false) (leads_of_card memory locks c.size option q.first n (inside n h) (omega arith));
         }
 
     tells-locks : q.command ≡ 0x2c → Tells (locks_read locks q.first (q.n + 1))

@@ -92,37 +92,37 @@ number_read q answer blocks locks = go (read_refusal q answer (length blocks) (l
 -- ---- what is read
 
 module _ (q : Request) (answer blocks locks : List ℕ) {number : ℕ} (is : number ≡ read_refusal q answer (length blocks) (length locks)) where
-  pub none-refuses : number ≡ 0 → Unrefused q answer (length blocks) (length locks)
-  none-refuses h = unrefused q answer (length blocks) (length locks) (sym is ∙ h)
+  pub none_refuses : number ≡ 0 → Unrefused q answer (length blocks) (length locks)
+  none_refuses h = unrefused q answer (length blocks) (length locks) (sym is ∙ h)
 
-  pub answer-long : number ≡ 0 → 3 ≤ length answer
-  answer-long h = (sealed_answer q answer (none-refuses h).answered).long
+  pub answer_long : number ≡ 0 → 3 ≤ length answer
+  answer_long h = (sealed_answer q answer (none_refuses h).answered).long
 
-  pub part-earned : number ≡ 0 → get_or answer 0 0 ≡ 0 → {part : List ℕ} → part ≡ part_of answer → length part + 3 ≡ earned q
+  pub part_earned : number ≡ 0 → get_or answer 0 0 ≡ 0 → {part : List ℕ} → part ≡ part_of answer → length part + 3 ≡ earned q
   unfolding part_of
-  part-earned h flags same =
-      let long : 3 ≤ length answer = answer-long h in
-      let all : length answer ≡ earned q = success_length q answer (none-refuses h).answered flags in
+  part_earned h flags same =
+      let long : 3 ≤ length answer = answer_long h in
+      let all : length answer ≡ earned q = success_length q answer (none_refuses h).answered flags in
       rw (same, length_part 1 (length answer - 3) answer (omega arith)) (omega arith)
 
-  pub reads-refused : (number ≡ 0 → ⊥) → Reads (reading q answer blocks locks) (record { number = number; reading = Nothing }) blocks locks
+  pub reads_refused : (number ≡ 0 → ⊥) → Reads (reading q answer blocks locks) (record { number = number; reading = Nothing }) blocks locks
   unfolding reading outcome
-  reads-refused h =
+  reads_refused h =
       let same : reading q answer blocks locks ≡ outcome number Nothing blocks locks = rw (← is, ne_eqb number 0 h) refl in
       rw same (record { number = refl; reading = refl; blocks_left = refl; locks_left = refl })
 
-  pub reads-error : number ≡ 0 → (get_or answer 0 0 ≡ 0 → ⊥)
+  pub reads_error : number ≡ 0 → (get_or answer 0 0 ≡ 0 → ⊥)
       → Reads (reading q answer blocks locks) (record { number = 0; reading = Error (get_or answer 1 0) }) blocks locks
   unfolding reading outcome
-  reads-error h flags =
+  reads_error h flags =
       let same : reading q answer blocks locks ≡ outcome 0 (Error (get_or answer 1 0)) blocks locks =
       rw (← is, eq-eqb number 0 h, ne_eqb (get_or answer 0 0) 0 flags) refl in
       rw same (record { number = refl; reading = refl; blocks_left = refl; locks_left = refl })
 
-  pub reads-shown : {part : List ℕ} {r : Reading} {b l : List ℕ} → number ≡ 0 → get_or answer 0 0 ≡ 0 → part ≡ part_of answer
+  pub reads_shown : {part : List ℕ} {r : Reading} {b l : List ℕ} → number ≡ 0 → get_or answer 0 0 ≡ 0 → part ≡ part_of answer
       → Hands (shown_in q part blocks locks) r b l → Reads (reading q answer blocks locks) (record { number = 0; reading = r }) b l
   unfolding reading shown_in outcome
-  reads-shown {part} h flags at p =
+  reads_shown {part} h flags at p =
       let same : reading q answer blocks locks ≡ shown_in q part blocks locks =
       rw (← is, eq-eqb number 0 h, eq-eqb (get_or answer 0 0) 0 flags, at) refl in
       rw same (record { number = refl; reading = p.reading; blocks_left = p.blocks_left; locks_left = p.locks_left })

@@ -28,13 +28,13 @@ module _ (c : Card) (memory locks found : List ℕ) (accepted : Accepted c memor
   unfolding event
   served o = rw (eq-eqb (refusal c (length memory) locks (length found)) 0 accepted)
 
-  pub frame-met : (frame : List ℕ) → frame_event c frame memory locks found ≡ carried_out (decided c locks frame) frame memory locks found
+  pub frame_met : (frame : List ℕ) → frame_event c frame memory locks found ≡ carried_out (decided c locks frame) frame memory locks found
   unfolding frame_event
-  frame-met frame = served (carried_out (decided c locks frame) frame memory locks found)
+  frame_met frame = served (carried_out (decided c locks frame) frame memory locks found)
 
-  pub mark-met : mark_event c memory locks found ≡ replied (marked c).card memory locks (marked c).reply found
+  pub mark_met : mark_event c memory locks found ≡ replied (marked c).card memory locks (marked c).reply found
   unfolding mark_event
-  mark-met = served (replied (marked c).card memory locks (marked c).reply found)
+  mark_met = served (replied (marked c).card memory locks (marked c).reply found)
 
 -- ---- what is said
 
@@ -59,32 +59,32 @@ some_bytes c memory locks (Status first n) e z = omega arith
 some_bytes c memory locks Information e z = omega arith
 
 module _ (c : Card) (memory locks found : List ℕ) where
-  pub silence-told : (replied c memory locks Silence found).told ≡ 0
+  pub silence_told : (replied c memory locks Silence found).told ≡ 0
   unfolding replied length_told reply_bytes
-  silence-told = refl
+  silence_told = refl
 
-  pub reply-told : (reply : Reply) → speaks reply ≡ true → (replied c memory locks reply found).told ≡ length (reply_bytes c memory locks reply) + 2
+  pub reply_told : (reply : Reply) → speaks reply ≡ true → (replied c memory locks reply found).told ≡ length (reply_bytes c memory locks reply) + 2
   unfolding replied length_told
-  reply-told reply e = rw (ne_eqb (length (reply_bytes c memory locks reply)) 0 (some_bytes c memory locks reply e))
+  reply_told reply e = rw (ne_eqb (length (reply_bytes c memory locks reply)) 0 (some_bytes c memory locks reply e))
 
-  pub reply-said : (reply : Reply) → speaks reply ≡ true
+  pub reply_said : (reply : Reply) → speaks reply ≡ true
       → take (replied c memory locks reply found).told (replied c memory locks reply found).answer ≡ sealed (reply_bytes c memory locks reply)
   unfolding answered replied
-  reply-said reply e =
+  reply_said reply e =
       let body : List ℕ = reply_bytes c memory locks reply in
       let long : length body + 2 ≡ length (sealed body) = sym (length_sealed body) in
-      rw (reply-told reply e, ne_eqb (length body) 0 (some_bytes c memory locks reply e), long) (take_over (sealed body) found)
+      rw (reply_told reply e, ne_eqb (length body) 0 (some_bytes c memory locks reply e), long) (take_over (sealed body) found)
 
 -- ---- what a promise allows of it
 
 module _ (c : Card) (memory locks found : List ℕ) (reply : Reply) {r : Served} {m l a : List ℕ} (leaves : Leaves (replied c memory locks reply found) r m l a) where
-  pub told-some : speaks reply ≡ true → eqb r.length 0 ≡ false
-  told-some e = ne_eqb r.length 0 (λ z. omega (arith, leaves.told, reply-told c memory locks found reply e))
+  pub told_some : speaks reply ≡ true → eqb r.length 0 ≡ false
+  told_some e = ne_eqb r.length 0 (λ z. omega (arith, leaves.told, reply_told c memory locks found reply e))
 
   pub said : speaks reply ≡ true → take r.length a ≡ sealed (reply_bytes r.card m l reply)
   unfolding replied
-  said e = rw (leaves.told, leaves.answer_left, leaves.card, leaves.memory_left, leaves.locks_left) (reply-said c memory locks found reply e)
+  said e = rw (leaves.told, leaves.answer_left, leaves.card, leaves.memory_left, leaves.locks_left) (reply_said c memory locks found reply e)
 
 pub told_none : (c : Card) (memory locks found : List ℕ) {r : Served} {m l a : List ℕ} → Leaves (replied c memory locks Silence found) r m l a
     → eqb r.length 0 ≡ true
-told_none c memory locks found {r} leaves = eq-eqb r.length 0 (leaves.told ∙ silence-told c memory locks found)
+told_none c memory locks found {r} leaves = eq-eqb r.length 0 (leaves.told ∙ silence_told c memory locks found)

@@ -53,12 +53,12 @@ stored_nothing q d bytes memory e = rw e (go (eqb q.command 0x22))
 -- d is the card after the request, of the shape of c
 module _ (q : Request) (written : List ℕ) (c d : Card) (memory locks : List ℕ) (ready : Ready c memory locks) (same : moves_blocks q ≡ true → q.size ≡ c.size) (kept : Kept c d)
     (place : q.command ≡ 0x21 → take q.size (drop (body_at q + 1) (frame q written)) ≡ written) (of : data_fits q (length written) ≡ true) where
-  pub stored-data : q.command ≡ 0x21 → memory_after d (frame q written) memory (effect_of q) ≡ placed (q.first * q.size) written memory
+  pub stored_data : q.command ≡ 0x21 → memory_after d (frame q written) memory (effect_of q) ≡ placed (q.first * q.size) written memory
   unfolding memory_after effect_of
-  stored-data is = rw (eq-eqb q.command 0x21 is, kept.size, ← (same (moves_21 q is))) (stored_one (frame q written) (body_at q + 1) q.size q.first memory ∙ ap (λ (s : List ℕ). placed (q.first * q.size) s memory) (place is))
+  stored_data is = rw (eq-eqb q.command 0x21 is, kept.size, ← (same (moves_21 q is))) (stored_one (frame q written) (body_at q + 1) q.size q.first memory ∙ ap (λ (s : List ℕ). placed (q.first * q.size) s memory) (place is))
 
-  pub length-memory : is_outside c q ≡ false → length (memory_after d (frame q written) memory (effect_of q)) ≡ length memory
-  length-memory inside = go (eqb q.command 0x21) refl
+  pub length_memory : is_outside c q ≡ false → length (memory_after d (frame q written) memory (effect_of q)) ≡ length memory
+  length_memory inside = go (eqb q.command 0x21) refl
     where
       go : (b : Bool) → eqb q.command 0x21 ≡ b → length (memory_after d (frame q written) memory (effect_of q)) ≡ length memory
       go true e =
@@ -67,7 +67,7 @@ module _ (q : Request) (written : List ℕ) (c d : Card) (memory locks : List �
           let all : suc q.first * q.size ≤ c.blocks * q.size = mul-le-mul_right q.size first in
           let stored : length memory ≡ c.blocks * q.size = rw (same (moves_21 q is)) ready.stored in
           let n : length written ≡ q.size = data_long q (length written) is of in
-          rw (stored-data is) (length_placed (q.first * q.size) written memory (rw n (omega (arith, suc-mul q.first q.size))))
+          rw (stored_data is) (length_placed (q.first * q.size) written memory (rw n (omega (arith, suc-mul q.first q.size))))
       go false e = ap length (stored_nothing q d (frame q written) memory e)
 
 pub length_locks : (q : Request) (locks : List ℕ) → length (locks_after locks (effect_of q)) ≡ length locks

@@ -23,8 +23,8 @@ use Rattle.reader.specs.Reading.{reads_blocks, block_bytes, lock_bytes, is_answe
 use Rattle.reader.specs.Shown.{is_called, is_held, code_of, shown_reading, Shows}
 use Rattle.reader.specs.Exchange.{ReadAs, Exchange}
 use Rattle.reader.proofs.Freed.{Freed, cleared_freed, changed_freed, mark_silent}
-use Rattle.reader.proofs.Decided.{decided-not-called-free}
-use Rattle.reader.proofs.Ends.{Meets, not-called-ends, done-ends, code-ends}
+use Rattle.reader.proofs.Decided.{decided_not_called_free}
+use Rattle.reader.proofs.Ends.{Meets, not_called_ends, done_ends, code_ends}
 use Rattle.reader.proofs.Exchange.{exchanged}
 
 -- ---- silence is not read
@@ -90,9 +90,9 @@ module _ {q : Request} {written : List ℕ} {c : Card} {memory locks found : Lis
   abbrev pub Went : Type 0
   Went = (is_called c q ≡ true) × (code_of c locks q ≡ 0)
 
-  pub went-at-once : (found found' : List ℕ) (t : Told) (b k : List ℕ) → Reads (reading q (take r.length a) found found') t b k → t.reading ≡ Done
+  pub went_at_once : (found found' : List ℕ) (t : Told) (b k : List ℕ) → Reads (reading q (take r.length a) found found') t b k → t.reading ≡ Done
       → Went × (is_held q ≡ false)
-  went-at-once found found' t b k reads e = go (is_called c q) (is_held q) refl refl
+  went_at_once found found' t b k reads e = go (is_called c q) (is_held q) refl refl
     where
       go : (x y : Bool) → is_called c q ≡ x → is_held q ≡ y → Went × (is_held q ≡ false)
       go true false h n = ((h, read_success q _ (code_of c locks q) r.card m l is (exchanges.read h n) found found' t b k reads e), n)
@@ -100,24 +100,24 @@ module _ {q : Request} {written : List ℕ} {c : Card} {memory locks found : Lis
       go false y h n = absurd (silent_no_success q r.length a found found' t b k (exchanges.silent ∙ rw h) reads e)
 
   -- a card that is not called, or that has answered, holds nothing
-  not-called-freed : is_called c q ≡ false → Freed r.card
+  not_called_freed : is_called c q ≡ false → Freed r.card
   unfolding replied
-  not-called-freed h =
-      rw (not-called-ends met h).card
-      (decided-not-called-free c locks q written met.is met.of met.fits.same_size met.fits.asked_uid h)
+  not_called_freed h =
+      rw (not_called_ends met h).card
+      (decided_not_called_free c locks q written met.is met.of met.fits.same_size met.fits.asked_uid h)
 
-  answered-freed : is_called c q ≡ true → is_held q ≡ false → Freed r.card
+  answered_freed : is_called c q ≡ true → is_held q ≡ false → Freed r.card
   unfolding replied
-  answered-freed h n = go (ℕ_discrete (code_of c locks q) 0)
+  answered_freed h n = go (ℕ_discrete (code_of c locks q) 0)
     where
       go : Dec (code_of c locks q ≡ 0) → Freed r.card
-      go (yes z) = rw (done-ends met h z n).card (changed_freed q (cleared c) (cleared_freed c))
-      go (no z) = rw (code-ends met h z n).card (cleared_freed c)
+      go (yes z) = rw (done_ends met h z n).card (changed_freed q (cleared c) (cleared_freed c))
+      go (no z) = rw (code_ends met h z n).card (cleared_freed c)
 
-  pub went-at-mark : (room : List ℕ) → Accepted r.card m l room → (s : Served) (m' l' a' : List ℕ) → Leaves (mark_event r.card m l room) s m' l' a'
+  pub went_at_mark : (room : List ℕ) → Accepted r.card m l room → (s : Served) (m' l' a' : List ℕ) → Leaves (mark_event r.card m l room) s m' l' a'
       → (found found' : List ℕ) (t : Told) (b k : List ℕ) → Reads (reading q (take s.length a') found found') t b k → t.reading ≡ Done
       → Went × (is_held q ≡ true)
-  went-at-mark room accepted s m' l' a' leaves found found' t b k reads e = go (is_called c q) (is_held q) refl refl
+  went_at_mark room accepted s m' l' a' leaves found found' t b k reads e = go (is_called c q) (is_held q) refl refl
     where
       silent : Freed r.card → ⊥
       silent p = silent_no_success q s.length a' found found' t b k (mark_silent r.card m l room accepted p leaves) reads e
@@ -125,5 +125,5 @@ module _ {q : Request} {written : List ℕ} {c : Card} {memory locks found : Lis
       go : (x y : Bool) → is_called c q ≡ x → is_held q ≡ y → Went × (is_held q ≡ true)
       go true true h n =
           ((h, read_success q _ (code_of c locks q) r.card m l is (exchanges.held h n room accepted s m' l' a' leaves).1 found found' t b k reads e), n)
-      go true false h n = absurd (silent (answered-freed h n))
-      go false y h n = absurd (silent (not-called-freed h))
+      go true false h n = absurd (silent (answered_freed h n))
+      go false y h n = absurd (silent (not_called_freed h))

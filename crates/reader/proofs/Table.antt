@@ -82,46 +82,46 @@ field_next f at x y rest e = field_of_one f (at + 1) ∙ rw (← (get_or-drop at
 -- the frame f has the body at its place, and something after it
 module _ (c : Card) (locks : List ℕ) (q : Request) (written f check : List ℕ) (option : Bool) (at : ℕ) (asks : has_option q ≡ option)
     (place : body_at q ≡ at) (stands : drop at f ≡ body q written ++ check) where
-  pub table-of-request : OneOfTwelve q.command
+  pub table_of_request : OneOfTwelve q.command
       → cond (option && refuses_option q.command) (fault (cleared c) 0x03)
       (commanded (cleared c) locks option f at q.command) ≡ deed_of c locks q
   unfolding refuses_option commanded width reads writes any_locked is_locked locks_block writes_afi writes_dsfid locks_afi locks_dsfid tells_locks
       cleared remade in_mode with_afi with_dsfid deed_of code_of is_held mistakes_option is_outside relocks writes_locked is_block_locked reply_to effect_of changed_by body
-  table-of-request (Is20 e) =
+  table_of_request (Is20 e) =
       let here = field_here f at q.first check (rw e at stands) in
       rw (asks, e, here, add-zero, outside_inside c.blocks q.first)
       (at_once option false (ltb q.first c.blocks) (cleared c) (cleared c) (Blocks q.first 1 option))
-  table-of-request (Is21 e) =
+  table_of_request (Is21 e) =
       let here = field_here f at q.first (written ++ check) (rw e at stands) in
       let locked : Bool = not (eqb (get_or locks q.first 0) 0) in
       rw (asks, place, e, here, add-zero, outside_inside c.blocks q.first, or-false locked)
       (may_hold option (ltb q.first c.blocks) locked 0x12 (cleared c) (cleared c) (Write q.first 1 (at + 1)) refl)
-  table-of-request (Is22 e) =
+  table_of_request (Is22 e) =
       let here = field_here f at q.first check (rw e at stands) in
       let locked : Bool = not (eqb (get_or locks q.first 0) 0) in
       rw (asks, e, here, outside_inside c.blocks q.first, or-false locked)
       (may_hold option (ltb q.first c.blocks) locked 0x11 (cleared c) (cleared c) (Lock q.first) refl)
-  table-of-request (Is23 e) =
+  table_of_request (Is23 e) =
       let here = field_here f at q.first (q.n ∷ check) (rw e at stands) in
       let next = field_next f at q.first q.n check (rw e at stands) in
       rw (asks, e, here, next, outside_inside c.blocks (q.first + q.n))
       (at_once option false (ltb (q.first + q.n) c.blocks) (cleared c) (cleared c) (Blocks q.first (q.n + 1) option))
-  table-of-request (Is25 e) = rw (asks, e) (at_once option true true (cleared c) (in_mode Selected (cleared c)) Done)
-  table-of-request (Is26 e) = rw (asks, e) (at_once option true true (cleared c) (in_mode Ready (cleared c)) Done)
-  table-of-request (Is27 e) =
+  table_of_request (Is25 e) = rw (asks, e) (at_once option true true (cleared c) (in_mode Selected (cleared c)) Done)
+  table_of_request (Is26 e) = rw (asks, e) (at_once option true true (cleared c) (in_mode Ready (cleared c)) Done)
+  table_of_request (Is27 e) =
       let here = byte_here f at q.value check (rw e at stands) in
       rw (asks, e, here, or-false c.afi_locked)
       (may_hold option true c.afi_locked 0x12 (cleared c) (with_afi q.value false (cleared c)) Leave refl)
-  table-of-request (Is28 e) =
+  table_of_request (Is28 e) =
       rw (asks, e, or-false c.afi_locked)
       (may_hold option true c.afi_locked 0x11 (cleared c) (with_afi c.afi true (cleared c)) Leave refl)
-  table-of-request (Is29 e) =
+  table_of_request (Is29 e) =
       let here = byte_here f at q.value check (rw e at stands) in
       rw (asks, e, here) (may_hold option true c.dsfid_locked 0x12 (cleared c) (with_dsfid q.value false (cleared c)) Leave refl)
-  table-of-request (Is2a e) =
+  table_of_request (Is2a e) =
       rw (asks, e) (may_hold option true c.dsfid_locked 0x11 (cleared c) (with_dsfid c.dsfid true (cleared c)) Leave refl)
-  table-of-request (Is2b e) = rw (asks, e) (at_once option true true (cleared c) (cleared c) Information)
-  table-of-request (Is2c e) =
+  table_of_request (Is2b e) = rw (asks, e) (at_once option true true (cleared c) (cleared c) Information)
+  table_of_request (Is2c e) =
       let here = field_here f at q.first (q.n ∷ check) (rw e at stands) in
       let next = field_next f at q.first q.n check (rw e at stands) in
       rw (asks, e, here, next, outside_inside c.blocks (q.first + q.n))

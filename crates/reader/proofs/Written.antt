@@ -27,11 +27,11 @@ use Rattle.reader.proofs.Asked.{changed_by}
 use Rattle.reader.proofs.Kept.{Kept, changed_kept, holding_kept}
 use Rattle.reader.proofs.Ready.{ready_of}
 use Rattle.reader.proofs.Codes.{inside_of, first_inside}
-use Rattle.reader.proofs.Spoken.{mark-met}
+use Rattle.reader.proofs.Spoken.{mark_met}
 use Rattle.reader.proofs.Stored.{data_long, moves_20, moves_21, stored_nothing}
-use Rattle.reader.proofs.Ends.{Meets, done-ends, done-held-ends}
+use Rattle.reader.proofs.Ends.{Meets, done_ends, done_held_ends}
 use Rattle.reader.proofs.Exchange.{exchanged, sent_meets}
-use Rattle.reader.proofs.Successes.{went-at-once, went-at-mark}
+use Rattle.reader.proofs.Successes.{went_at_once, went_at_mark}
 
 -- ---- bytes placed, cut out again
 
@@ -84,15 +84,15 @@ module _ (w : Request) (written : List ℕ) (c : Card) (memory : List ℕ) (long
   unfolding blocks_held
   held_back q first same = rw (first, same, one-mul, holds) (placed_back (w.first * w.size) w.size written memory long in_memory)
 
-  pub reads-back : ReadsBack w written next m l
+  pub reads_back : ReadsBack w written next m l
   unfolding replied shown_reading reading_held shown_bytes bytes_held
-  reads-back q unused found fits is first r m' l' a sent some found' found'' room room' t b k reads =
+  reads_back q unused found fits is first r m' l' a sent some found' found'' room room' t b k reads =
       let met : Meets q unused next m l found r m' l' a = sent_meets q unused next m l found fits r m' l' a sent in
       let same : q.size ≡ w.size = fits.same_size (moves_20 q is) ∙ kept.size ∙ sym size in
       let e : Exchange q unused next m l r m' l' a = exchanged met in
       let answers = answers_of (is_called next q) (is_held q) (sym e.silent ∙ some) in
       let z : code_of next l q ≡ 0 = no_code next l q is (rw (first, kept.blocks) inside) in
-      let p = done-ends met answers.0 z answers.1 in
+      let p = done_ends met answers.0 z answers.1 in
       let twenty : eqb q.command 0x20 ≡ true = eq-eqb q.command 0x20 is in
       let kept_memory : m' ≡ m = p.memory_left ∙ stored_nothing q (changed_by q (cleared next)) (frame q unused) m (rw is) in
       let shows : Shows (code_of next l q) r.card m' l' q found' found'' t b k = e.read answers.0 answers.1 found' found'' room room' t b k reads in (
@@ -113,30 +113,30 @@ module _ {w : Request} {written : List ℕ} {c : Card} {memory locks found : Lis
       let holds : m ≡ placed (w.first * w.size) written memory = does.memory_written ∙ rw (eq-eqb w.command 0x21 is) in
       record {
         stored = holds;
-        locks_kept = does.locks_set ∙ not-22 (eqb w.command 0x22) refl;
+        locks_kept = does.locks_set ∙ not_22 (eqb w.command 0x22) refl;
         comes_back =
-            reads-back w written c memory (data_long w (length written) is met.of) (met.fits.same_size (moves_21 w is)) ready.stored
+            reads_back w written c memory (data_long w (length written) is met.of) (met.fits.same_size (moves_21 w is)) ready.stored
             (first_inside c w is (inside_of c locks w z)) next kept m l holds;
       }
     where
-      not-22 : (b : Bool) → eqb w.command 0x22 ≡ b → cond b (set locks w.first 1) locks ≡ locks
-      not-22 true e =
+      not_22 : (b : Bool) → eqb w.command 0x22 ≡ b → cond b (set locks w.first 1) locks ≡ locks
+      not_22 true e =
           let other : w.command ≡ 0x22 = eqb-true w.command 0x22 e in
           absurd (omega (arith, is))
-      not-22 false e = refl
+      not_22 false e = refl
 
-  written-at-once : is_held w ≡ false → Written w written memory locks r.card m l
+  written_at_once : is_held w ≡ false → Written w written memory locks r.card m l
   unfolding replied
-  written-at-once n = written_of r.card (rw (done-ends met called z n).card (changed_kept w c))
+  written_at_once n = written_of r.card (rw (done_ends met called z n).card (changed_kept w c))
 
-  written-at-mark : is_held w ≡ true → (room : List ℕ) → Accepted r.card m l room
+  written_at_mark : is_held w ≡ true → (room : List ℕ) → Accepted r.card m l room
       → (s : Served) (m' l' a' : List ℕ) → Leaves (mark_event r.card m l room) s m' l' a' → Written w written memory locks s.card m' l'
   unfolding replied marked released holding remade
-  written-at-mark n room accepted s m' l' a' leaves =
+  written_at_mark n room accepted s m' l' a' leaves =
       let next : Card = changed_by w (cleared c) in
       let held : Card = holding Success next in
       let kept : Kept c held = holding_kept c next Success (changed_kept w c) in
-      let p = rw (mark-met r.card m l room accepted, (done-held-ends met called z n).card) at leaves in
+      let p = rw (mark_met r.card m l room accepted, (done_held_ends met called z n).card) at leaves in
       rw (p.memory_left, p.locks_left) (written_of s.card (rw p.card (holding_kept c held Free kept)))
 
 pub written_then_read : (w : Request) (written : List ℕ) (c : Card) (memory locks found : List ℕ) → Fits c memory locks found w → w.command ≡ 0x21
@@ -150,8 +150,8 @@ written_then_read w written c memory locks found fits is r m l a sent = go
 
     go : (next : Card) (m' l' : List ℕ) → Succeeds w r m l a next m' l' → Written w written memory locks next m' l'
     go next m' l' (AtOnce found found' t b k reads e) =
-        let went = went-at-once met is found found' t b k reads e in
-        written-at-once met is went.0.0 went.0.1 went.1
+        let went = went_at_once met is found found' t b k reads e in
+        written_at_once met is went.0.0 went.0.1 went.1
     go next m' l' (AtMark room accepted s m'' l'' a'' leaves found found' t b k reads e) =
-        let went = went-at-mark met is room accepted s m'' l'' a'' leaves found found' t b k reads e in
-        written-at-mark met is went.0.0 went.0.1 went.1 room accepted s m'' l'' a'' leaves
+        let went = went_at_mark met is room accepted s m'' l'' a'' leaves found found' t b k reads e in
+        written_at_mark met is went.0.0 went.0.1 went.1 room accepted s m'' l'' a'' leaves

@@ -78,17 +78,17 @@ pub numbers_changes : (frame : List ℕ) → Bytes frame → Changes Numbers fra
 unfolding in_mode in_sequence holding with_afi with_dsfid remade
 numbers_changes frame bs =
     record {
-      modes = λ c n m. with-both c n _ refl refl n.afi n.dsfid;
-      sequences = λ c n s e. with-both c n _ refl refl n.afi n.dsfid;
-      holds = λ c n h e. with-both c n _ refl refl n.afi n.dsfid;
-      writes_afi = λ c n e at. with-both c n _ refl refl (bs at) n.dsfid;
-      locks_afi = λ c n. with-both c n _ refl refl n.afi n.dsfid;
-      writes_dsfid = λ c n e at. with-both c n _ refl refl n.afi (bs at);
-      locks_dsfid = λ c n. with-both c n _ refl refl n.afi n.dsfid;
+      modes = λ c n m. with_both c n _ refl refl n.afi n.dsfid;
+      sequences = λ c n s e. with_both c n _ refl refl n.afi n.dsfid;
+      holds = λ c n h e. with_both c n _ refl refl n.afi n.dsfid;
+      writes_afi = λ c n e at. with_both c n _ refl refl (bs at) n.dsfid;
+      locks_afi = λ c n. with_both c n _ refl refl n.afi n.dsfid;
+      writes_dsfid = λ c n e at. with_both c n _ refl refl n.afi (bs at);
+      locks_dsfid = λ c n. with_both c n _ refl refl n.afi n.dsfid;
     }
   where
-    with-both : (c : Card) → Numbers c → (d : Card) → d.uid ≡ c.uid → d.ic_reference ≡ c.ic_reference → d.afi < 256 → d.dsfid < 256 → Numbers d
-    with-both c n d u i a f = record { uid = rw u n.uid; afi = a; dsfid = f; ic_reference = rw i n.ic_reference }
+    with_both : (c : Card) → Numbers c → (d : Card) → d.uid ≡ c.uid → d.ic_reference ≡ c.ic_reference → d.afi < 256 → d.dsfid < 256 → Numbers d
+    with_both c n d u i a f = record { uid = rw u n.uid; afi = a; dsfid = f; ic_reference = rw i n.ic_reference }
 
 numbers_of : (bytes : List ℕ) → Bytes bytes → Numbers (card_of bytes)
 unfolding card_of

@@ -49,21 +49,21 @@ held_back (Code code) k =
     rw (ne_eqb code 0 (λ e. absurd (omega arith)), ne_eqb code 1 (λ e. absurd (omega arith)))
 
 module _ (c : Card) (found : List ℕ) (is : length found ≡ 40) where
-  uid-back : field_at (record_of c found) 0 8 ≡ field_of (field_bytes 8 c.uid)
+  uid_back : field_at (record_of c found) 0 8 ≡ field_of (field_bytes 8 c.uid)
   unfolding record_of placed over front_bytes state_bytes field_bytes field_at
-  uid-back = refl
+  uid_back = refl
 
-  blocks-back : field_at (record_of c found) 8 4 ≡ field_of (field_bytes 4 c.blocks)
+  blocks_back : field_at (record_of c found) 8 4 ≡ field_of (field_bytes 4 c.blocks)
   unfolding record_of placed over front_bytes state_bytes field_bytes field_at
-  blocks-back = refl
+  blocks_back = refl
 
   size_back : field_at (record_of c found) 12 4 ≡ field_of (field_bytes 4 c.size)
   unfolding record_of placed over front_bytes state_bytes field_bytes field_at
   size_back = refl
 
-  mask-back : field_at (record_of c found) 32 8 ≡ field_of (field_bytes 8 (fields_of c.sequence).mask)
+  mask_back : field_at (record_of c found) 32 8 ≡ field_of (field_bytes 8 (fields_of c.sequence).mask)
   unfolding record_of placed field_at
-  mask-back =
+  mask_back =
       let x : List ℕ = over (front_bytes c) found in
       let m : List ℕ = field_bytes 8 (fields_of c.sequence).mask in
       let all : length x ≡ length found = length_over (front_bytes c) found (omega (arith, length_front c)) in
@@ -76,13 +76,13 @@ module _ (c : Card) (found : List ℕ) (is : length found ≡ 40) where
       ∙ ap (λ (l : List ℕ). field_of (take 8 l)) from
       ∙ ap field_of (take_at m (drop (32 + length m) x) 8 (length_field_bytes 8 (fields_of c.sequence).mask))
 
-  pub card-of-record : Fits c → card_of (record_of c found) ≡ c
+  pub card_of_record : Fits c → card_of (record_of c found) ≡ c
   unfolding card_of record_of placed over front_bytes state_bytes field_bytes
-  card-of-record fits =
-      let u : field_at (record_of c found) 0 8 ≡ c.uid = uid-back ∙ field_of_bytes 8 c.uid fits.uid in
-      let b : field_at (record_of c found) 8 4 ≡ c.blocks = blocks-back ∙ field_of_bytes 4 c.blocks fits.blocks in
+  card_of_record fits =
+      let u : field_at (record_of c found) 0 8 ≡ c.uid = uid_back ∙ field_of_bytes 8 c.uid fits.uid in
+      let b : field_at (record_of c found) 8 4 ≡ c.blocks = blocks_back ∙ field_of_bytes 4 c.blocks fits.blocks in
       let s : field_at (record_of c found) 12 4 ≡ c.size = size_back ∙ field_of_bytes 4 c.size fits.size in
-      let m : field_at (record_of c found) 32 8 ≡ (fields_of c.sequence).mask = mask-back ∙ field_of_bytes 8 (fields_of c.sequence).mask fits.mask in
+      let m : field_at (record_of c found) 32 8 ≡ (fields_of c.sequence).mask = mask_back ∙ field_of_bytes 8 (fields_of c.sequence).mask fits.mask in
       let q : sequence_of (fields_of c.sequence).running (fields_of c.sequence).slot (fields_of c.sequence).length (field_at (record_of c found) 32 8) ≡ c.sequence =
       ap (λ (v : ℕ). sequence_of (fields_of c.sequence).running (fields_of c.sequence).slot (fields_of c.sequence).length v) m
       ∙ sequence_back c.sequence in
@@ -101,19 +101,19 @@ module _ (c : Card) (found : List ℕ) (is : length found ≡ 40) where
         held = held_back c.held fits.code i;
       }
 
-  pub length-record : length (record_of c found) ≡ 40
+  pub length_record : length (record_of c found) ≡ 40
   unfolding record_of
-  length-record =
+  length_record =
       let m : List ℕ = field_bytes 8 (fields_of c.sequence).mask in
       let n : length m ≡ 8 = length_field_bytes 8 (fields_of c.sequence).mask in
       let all : length (over (front_bytes c) found) ≡ length found = length_over (front_bytes c) found (omega (arith, length_front c)) in
       length_placed 32 m (over (front_bytes c) found) (omega arith) ∙ all ∙ is
 
   -- the same of the calls
-  pub read-of-record : Fits c → card_read (record_of c found) ≡ c
+  pub read_of_record : Fits c → card_read (record_of c found) ≡ c
   unfolding card_read record_length
-  read-of-record fits = rw (eq-eqb (length (record_of c found)) 40 length-record) (card-of-record fits)
+  read_of_record fits = rw (eq-eqb (length (record_of c found)) 40 length_record) (card_of_record fits)
 
-  pub read-of-write : Fits c → card_read (write_leaves c found) ≡ c
+  pub read_of_write : Fits c → card_read (write_leaves c found) ≡ c
   unfolding write_leaves record_length
-  read-of-write fits = rw (eq-eqb (length found) 40 is) (read-of-record fits)
+  read_of_write fits = rw (eq-eqb (length found) 40 is) (read_of_record fits)

@@ -1,5 +1,5 @@
 -- A row that has been heard up to a place: what the rest of it adds from here is what the whole adds from the start.
---     partly_none      nothing heard.        partly_more      one card more.        partly-air, partly-row     the whole row
+--     partly_none      nothing heard.        partly_more      one card more.        partly_air, partly_row     the whole row
 -- Assumes nothing.
 use Prim.Native.Nat.{ℕ, suc, ◌+◌, ◌≤◌, ◌<◌}
 use native.Mathlib.Nat.{le_refl}
@@ -25,8 +25,8 @@ pub partly_none : (w : Walk) (ys : List Card) → Partly w ys 0 ys still_air
 partly_none w ys = record { within = omega arith; long = refl; air_left = refl; row_left = refl }
 
 module _ (w : Walk) (ys : List Card) (i : ℕ) (row : List Card) (air : Air) (p : Partly w ys i row air) where
-  pub place-within : i < length ys → i < length row
-  place-within l = subst (λ (m : ℕ). i < m) (sym p.long) l
+  pub place_within : i < length ys → i < length row
+  place_within l = subst (λ (m : ℕ). i < m) (sym p.long) l
 
   pub partly_more : (d : Card) (r : Listened) → i < length ys → Listens (sent_of w) (get_or row i d) air r → Partly w ys (i + 1) (set row i r.card) r.air
   unfolding row_air row_after turn_of
@@ -37,14 +37,14 @@ module _ (w : Walk) (ys : List Card) (i : ℕ) (row : List Card) (air : Air) (p 
         air_left = ap (λ (j : ℕ). row_air w r.air (drop j (set row i r.card))) one
             ∙ ap (λ (cs : List Card). row_air w r.air cs) (drop-set-lt (suc i) row i r.card (le_refl (suc i)))
             ∙ ap (λ (a : Air). row_air w a (drop (suc i) row)) h.air_left
-            ∙ ap (λ (cs : List Card). row_air w air cs) (sym (drop-cons row i d (place-within l)))
+            ∙ ap (λ (cs : List Card). row_air w air cs) (sym (drop-cons row i d (place_within l)))
             ∙ p.air_left;
         row_left = ap (λ (j : ℕ). take j (set row i r.card) ++ row_after w (drop j (set row i r.card))) one
-            ∙ ap (λ (cs : List Card). cs ++ row_after w (drop (suc i) (set row i r.card))) (take-suc-set row i r.card (place-within l))
+            ∙ ap (λ (cs : List Card). cs ++ row_after w (drop (suc i) (set row i r.card))) (take-suc-set row i r.card (place_within l))
             ∙ ap (λ (cs : List Card). take i row ++ (r.card ∷ []) ++ row_after w cs) (drop-set-lt (suc i) row i r.card (le_refl (suc i)))
             ∙ append_snoc (take i row) r.card (row_after w (drop (suc i) row))
             ∙ ap (λ (c : Card). take i row ++ c ∷ row_after w (drop (suc i) row)) h.card
-            ∙ ap (λ (cs : List Card). take i row ++ row_after w cs) (sym (drop-cons row i d (place-within l)))
+            ∙ ap (λ (cs : List Card). take i row ++ row_after w cs) (sym (drop-cons row i d (place_within l)))
             ∙ p.row_left;
       }
     where
@@ -54,12 +54,12 @@ module _ (w : Walk) (ys : List Card) (i : ℕ) (row : List Card) (air : Air) (p 
   none_left : length ys ≤ i → drop i row ≡ []
   none_left l = drop_of_length-le row (subst (λ (m : ℕ). m ≤ i) (sym p.long) l)
 
-  pub partly-air : length ys ≤ i → air ≡ row_air w still_air ys
+  pub partly_air : length ys ≤ i → air ≡ row_air w still_air ys
   unfolding row_air
-  partly-air l = ap (λ (cs : List Card). row_air w air cs) (sym (none_left l)) ∙ p.air_left
+  partly_air l = ap (λ (cs : List Card). row_air w air cs) (sym (none_left l)) ∙ p.air_left
 
-  pub partly-row : length ys ≤ i → row ≡ row_after w ys
+  pub partly_row : length ys ≤ i → row ≡ row_after w ys
   unfolding row_after
-  partly-row l =
+  partly_row l =
       sym (append-nil row) ∙ ap (λ (cs : List Card). cs ++ []) (sym (take_all i row (subst (λ (m : ℕ). m ≤ i) (sym p.long) l)))
       ∙ ap (λ (cs : List Card). take i row ++ row_after w cs) (sym (none_left l)) ∙ p.row_left

@@ -29,7 +29,7 @@ use Rattle.tracks.specs.Coder.{Codes}
 use Rattle.tracks.specs.Decoder.{told, Decodes}
 use Rattle.tracks.specs.Examples.{Tracks}
 use Rattle.tracks.proofs.Different.{mark_no_track}
-use Rattle.tracks.proofs.Inverse.{decode-of-code, decode_answers}
+use Rattle.tracks.proofs.Inverse.{decode_of_code, decode_answers}
 use Rattle.tracks.proofs.Examples.{tracks}
 use Rattle.coil.specs.Track.{answer_track}
 use Rattle.coil.specs.Coder.{CodesAnswer}
@@ -38,7 +38,7 @@ use Rattle.coil.specs.Decoder as coil
 use Rattle.coil.specs.Read.{TrackReads, Tells}
 use Rattle.coil.specs.Overlay.{Answers, Overlays}
 use Rattle.coil.specs.Examples.{Coil}
-use Rattle.coil.proofs.Back.{answer_coded, answer-of-code}
+use Rattle.coil.proofs.Back.{answer_coded, answer_of_code}
 use Rattle.coil.proofs.Read as coil_read
 use Rattle.coil.proofs.Overlay.{overlays}
 use Rattle.coil.proofs.Examples as coil_examples
@@ -48,7 +48,7 @@ use Rattle.card.specs.Record.{cleared}
 use Rattle.card.specs.Frame.{heard_inventory}
 use Rattle.record.specs.Fits.{Fits}
 use Rattle.record.specs.Record.{card_read, write_leaves}
-use Rattle.record.proofs.RoundTrip.{read-of-write}
+use Rattle.record.proofs.RoundTrip.{read_of_write}
 use Rattle.commands.specs.Frame.{leaving, decided}
 use Rattle.commands.proofs.Rules.{inventory_frame}
 use Rattle.play.specs.declared.Served.{Served}
@@ -71,9 +71,9 @@ use Rattle.reader.specs.Request.{frame, is_request, data_fits}
 use Rattle.reader.specs.Reading.{block_bytes, lock_bytes, earned, outcome, shown_in, reading, Reads, IsAnswer, shows_data, ErrorShowsNothing}
 use Rattle.reader.specs.Exchange.{Fits as fits_card, Sent, Exchange, Succeeds, Written}
 use Rattle.reader.proofs.Lengths.{length_frame_least, length_frame_most, frame_sound, longest_request, longest_made}
-use Rattle.reader.proofs.AnswerRead.{part-read, code_read}
-use Rattle.reader.proofs.Eleven.{read-of-answer, answer-of-read, else-eleven}
-use Rattle.reader.proofs.Errors.{error-shows-nothing}
+use Rattle.reader.proofs.AnswerRead.{part_read, code_read}
+use Rattle.reader.proofs.Eleven.{read_of_answer, answer_of_read, else_eleven}
+use Rattle.reader.proofs.Errors.{error_shows_nothing}
 use Rattle.reader.proofs.Exchange.{exchange}
 use Rattle.reader.proofs.Written.{written_then_read}
 use Rattle.board.specs.declared.answers.Shown.{Shown}
@@ -106,7 +106,7 @@ use Rattle.field.proofs.TwoLevels.{low_bits_tell, walk_of_sixteen_levels, two_le
 use Rattle.field.proofs.Foreign.{walk_of_any_uids}
 use Rattle.field.proofs.Answering.{card_heard_once}
 use Rattle.field.proofs.TableOne.{modes_heard, none_asked, all_asked, family_asked, only_asked}
-use Rattle.field.proofs.Calling.{family-requested}
+use Rattle.field.proofs.Calling.{family_requested}
 use Rattle.field.proofs.Families.{families}
 use Rattle.field.proofs.Examples.{field_of_three}
 use Rattle.racks.specs.Calls.{OneList, Shareable, owned, rows_of, Call, list_after_call}
@@ -189,7 +189,7 @@ soundness_only = sealed_of_sound
 decoding_what_was_coded : {frame : List ℕ} {coding : ℕ} {room : List ℕ} {n : ℕ} {track : List ℕ} → Codes frame coding room (pos n) track
     → {found : List ℕ} {r : ℤ} {left : List ℕ} → Bytes frame → longest ≤ length found → Decodes (take n track) found r left
     → (r ≡ told coding (length frame)) × (left ≡ over frame found)
-decoding_what_was_coded = decode-of-code
+decoding_what_was_coded = decode_of_code
 
 -- Whatever bytes are read, the decoder has an answer: the frame whose track they are, the slot mark, or number 8 or 9.
 reading_anything : (t found : List ℕ) → (r : ℤ) × (left : List ℕ) × Decodes t found r left
@@ -253,7 +253,7 @@ within_the_card = decided_fits
 
 -- A card that is written into its record of forty bytes is read back from it.
 reading_what_was_written : (c : Card) (found : List ℕ) → length found ≡ 40 → Fits c → card_read (write_leaves c found) ≡ c
-reading_what_was_written = read-of-write
+reading_what_was_written = read_of_write
 
 -- After a call from C the record's bytes mean the card of the event's outcome, so that a call after a call is the card's event after its event.
 reading_after_a_frame : (bytes frame memory locks found : List ℕ) → Bytes bytes
@@ -297,7 +297,7 @@ an_exchange = exchange
 -- both buffers as they were.
 an_error_shows_nothing : (q : Request) (answer blocks locks : List ℕ) (r : Told) (blocksLeft locksLeft : List ℕ)
     → Reads (reading q answer blocks locks) r blocksLeft locksLeft → ErrorShowsNothing answer blocks locks r blocksLeft locksLeft
-an_error_shows_nothing = error-shows-nothing
+an_error_shows_nothing = error_shows_nothing
 
 -- From C: where no data are read, of an error or of bytes that are refused, the information is all zeros too.
 an_error_shows_c_nothing : (q : Request) (answer blocks locks : List ℕ) (r : Shown) (blocksLeft locksLeft : List ℕ)
@@ -309,21 +309,21 @@ an_error_shows_c_nothing = error_shows_c_nothing
 -- with 0F (`IsAnswer`); all else is number 11 and changes nothing.
 an_answer_is_read : (q : Request) (answer blocks locks : List ℕ) → is_request q ≡ true → block_bytes q ≤ length blocks → lock_bytes q ≤ length locks
     → IsAnswer q answer → (reading q answer blocks locks).number ≡ 0
-an_answer_is_read = read-of-answer
+an_answer_is_read = read_of_answer
 
 only_an_answer_is_read : (q : Request) (answer blocks locks : List ℕ) → is_request q ≡ true → block_bytes q ≤ length blocks → lock_bytes q ≤ length locks
     → (reading q answer blocks locks).number ≡ 0 → IsAnswer q answer
-only_an_answer_is_read = answer-of-read
+only_an_answer_is_read = answer_of_read
 
 all_else_is_eleven : (q : Request) (answer blocks locks : List ℕ) → is_request q ≡ true → block_bytes q ≤ length blocks → lock_bytes q ≤ length locks
     → (IsAnswer q answer → ⊥) → reading q answer blocks locks ≡ outcome 11 Nothing blocks locks
-all_else_is_eleven = else-eleven
+all_else_is_eleven = else_eleven
 
 -- And as what they are read: a success as its part, and an error as its code.
 a_success_is_its_part : (q : Request) → is_request q ≡ true → (blocks locks : List ℕ) → block_bytes q ≤ length blocks → lock_bytes q ≤ length locks
     → (part : List ℕ) → length part + 3 ≡ earned q → (q.command ≡ 0x2b → get_or part 0 0 ≡ 0x0f)
     → reading q (sealed (0x00 ∷ part)) blocks locks ≡ shown_in q part blocks locks
-a_success_is_its_part = part-read
+a_success_is_its_part = part_read
 
 an_error_is_its_code : (q : Request) → is_request q ≡ true → (blocks locks : List ℕ) → block_bytes q ≤ length blocks → lock_bytes q ≤ length locks
     → (code : ℕ) → reading q (sealed (0x01 ∷ code ∷ [])) blocks locks ≡ outcome 0 (Error code) blocks locks
@@ -468,7 +468,7 @@ asked_none = none_asked
 a_request_for_a_family : (q : Calling) (asked : ℕ) (c : Card) (memory locks found : List ℕ) → refusal c (length memory) locks (length found) ≡ 0
     → asked < 256
     → frame_event c (calling q asked) memory locks found ≡ cond (answers asked c) (took_part q c memory locks found) (passed_over c memory locks found)
-a_request_for_a_family = family-requested
+a_request_for_a_family = family_requested
 
 -- ---- Two racks, one list (02)
 
@@ -587,18 +587,18 @@ coding_an_answer = answer_coded
 decoding_a_coded_answer : {answer room : List ℕ} {n : ℕ} {track : List ℕ} → CodesAnswer answer room (pos n) track
     → {found : List ℕ} {r : ℤ} {left : List ℕ} → Bytes answer → longest_answer ≤ length found → DecodesAnswer (take n track) found r left
     → (r ≡ pos (length answer)) × (left ≡ over answer found)
-decoding_a_coded_answer = answer-of-code
+decoding_a_coded_answer = answer_of_code
 
 -- What is read of any bytes, with such a room, is one of four (`TrackReads`): an answer, and the bytes are to the byte what the coder makes of it; a clash at
 -- bit k: start, end and length are right, each pair before k is 10 or 01, pair k is 11; a loss at bit k, the same with 00; number 12, and start, end or
 -- length is wrong. In the last three nothing is written.
 what_the_coil_says : (t found : List ℕ) (r : ℤ) (left : List ℕ) → longest_answer ≤ length found → DecodesAnswer t found r left → Bytes t
     → TrackReads t found r left
-what_the_coil_says = coil_read.what-is-read
+what_the_coil_says = coil_read.what_is_read
 
 -- And of what is read, the number that is told: an answer's length, 131,072 and the bit of a clash, 262,144 and that of a loss, or minus 12.
 what_the_coil_tells : (t found : List ℕ) (r : ℤ) (left : List ℕ) → longest_answer ≤ length found → DecodesAnswer t found r left → Tells t found r left
-what_the_coil_tells = coil_read.what-is-told
+what_the_coil_tells = coil_read.what_is_told
 
 -- Answers laid over each other: identical ones are read as that answer; others of one length as a clash at the first bit in which they are not all alike,
 -- and of any lengths as a clash. B8 stands last alone in all of these.

@@ -13,7 +13,7 @@ use Rattle.frames.specs.Frame.{longest}
 use Rattle.tracks.specs.Track.{end, slot_mark}
 use Rattle.tracks.specs.Decoder.{IsTrackOf, told, Decodes, no_room, a-frame, a-mark, no-track}
 use Rattle.tracks.specs.Steps.{count_of, is_track, is_slot_mark}
-use Rattle.tracks.proofs.Parts.{parts-of-track}
+use Rattle.tracks.proofs.Parts.{parts_of_track}
 use Rattle.tracks.proofs.RoundTrip.{frame_of, track_of_frame, coded_of_track, frame_bytes, length_frame_of}
 
 -- ---- the slot mark by its test
@@ -36,31 +36,31 @@ mark_is = refl
 -- ---- the ways out
 
 module _ (t found : List ℕ) where
-  pub decodes-no-room : length found < longest → Decodes t found (refused 8) found
-  decodes-no-room h = no_room h refl refl
+  pub decodes_no_room : length found < longest → Decodes t found (refused 8) found
+  decodes_no_room h = no_room h refl refl
 
   module _ (room : longest ≤ length found) where
-    pub decodes-mark : is_slot_mark t ≡ true → Decodes t found (told 2 0) found
-    decodes-mark h = a-mark room (mark_of t h) refl refl
+    pub decodes_mark : is_slot_mark t ≡ true → Decodes t found (told 2 0) found
+    decodes_mark h = a-mark room (mark_of t h) refl refl
 
-    pub decodes-frame : (coding : ℕ) → coding < 2 → is_track coding t ≡ true → Decodes t found (told coding (count_of coding t)) (over (frame_of coding t) found)
-    decodes-frame coding c h =
+    pub decodes_frame : (coding : ℕ) → coding < 2 → is_track coding t ≡ true → Decodes t found (told coding (count_of coding t)) (over (frame_of coding t) found)
+    decodes_frame coding c h =
         let n : length (frame_of coding t) ≡ count_of coding t = length_frame_of coding t in
         let frame : IsTrackOf coding (frame_of coding t) t =
         record {
           known = c;
           bytes = frame_bytes coding t h;
-          short = rw n (parts-of-track coding t h).short;
+          short = rw n (parts_of_track coding t h).short;
           track = coded_of_track coding t h;
         }
         in
         a-frame room coding (frame_of coding t) frame (rw n) refl
 
     module _ (no-mark : is_slot_mark t ≡ false) (not-of-4 : is_track 0 t ≡ false) (not-of-256 : is_track 1 t ≡ false) where
-      no-frame : (coding : ℕ) (frame : List ℕ) → IsTrackOf coding frame t → ⊥
-      no-frame zero frame is = false≢true (sym not-of-4 ∙ rw is.track (track_of_frame 0 frame is.bytes is.short))
-      no-frame (suc zero) frame is = false≢true (sym not-of-256 ∙ rw is.track (track_of_frame 1 frame is.bytes is.short))
-      no-frame (suc (suc coding)) frame is = omega (arith, is.known)
+      no_frame : (coding : ℕ) (frame : List ℕ) → IsTrackOf coding frame t → ⊥
+      no_frame zero frame is = false≢true (sym not-of-4 ∙ rw is.track (track_of_frame 0 frame is.bytes is.short))
+      no_frame (suc zero) frame is = false≢true (sym not-of-256 ∙ rw is.track (track_of_frame 1 frame is.bytes is.short))
+      no_frame (suc (suc coding)) frame is = omega (arith, is.known)
 
-      pub decodes-no-track : Decodes t found (refused 9) found
-      decodes-no-track = no-track room no-frame (λ e. false≢true (sym no-mark ∙ rw e mark_is)) refl refl
+      pub decodes_no_track : Decodes t found (refused 9) found
+      decodes_no_track = no-track room no_frame (λ e. false≢true (sym no-mark ∙ rw e mark_is)) refl refl

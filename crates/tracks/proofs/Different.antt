@@ -32,11 +32,11 @@ unfolding track_of
 coding_of_track {coding} p = rw p.track (coding_of_start coding p.known)
 
 module _ {t : List ℕ} {c d : ℕ} {f g : List ℕ} (p : IsTrackOf c f t) (q : IsTrackOf d g t) where
-  pub same-coding : c ≡ d
-  same-coding = sym (coding_of_track p) ∙ coding_of_track q
+  pub same_coding : c ≡ d
+  same_coding = sym (coding_of_track p) ∙ coding_of_track q
 
-  pub same-frame : f ≡ g
-  same-frame =
+  pub same_frame : f ≡ g
+  same_frame =
       sym (frame_of_track c f p.bytes)
       ∙ ap (frame_of c) (sym p.track ∙ q.track)
-      ∙ rw same-coding (frame_of_track d g q.bytes)
+      ∙ rw same_coding (frame_of_track d g q.bytes)

@@ -8,8 +8,8 @@ use Rattle.frames.specs.Frame.{longest}
 use Rattle.tracks.specs.Track.{start, pattern, quad, blank, long, coded, unit, pulses, track_of}
 use Rattle.tracks.specs.Steps.{pair_of, joined, zeros, lone, byte_of, are_bytes, bytes_of, count_of, is_track, is_slot_mark}
 use Rattle.tracks.specs.Examples.{Tracks}
-use Rattle.tracks.proofs.CodeWays.{codes-too-long, codes-served}
-use Rattle.tracks.proofs.DecodeWays.{decodes-frame, decodes-no-track}
+use Rattle.tracks.proofs.CodeWays.{codes_too_long, codes_served}
+use Rattle.tracks.proofs.DecodeWays.{decodes_frame, decodes_no_track}
 use Rattle.tracks.proofs.RoundTrip.{frame_of}
 use Rattle.tracks.proofs.Unique.{code_unique, decode_unique}
 
@@ -25,11 +25,11 @@ pub tracks : Tracks
 unfolding start pattern unit pair_of joined zeros lone byte_of are_bytes bytes_of count_of is_track is_slot_mark frame_of longest
 tracks =
     record {
-      e1_of_4 = λ found r left room p. rw e1_track at (code_unique p (codes-served (0xe1 ∷ []) 0 found (omega arith) (omega arith) room));
-      e1_of_256 = λ found r left room p. rw e1_long_track at (code_unique p (codes-served (0xe1 ∷ []) 1 found (omega arith) (omega arith) room));
-      empty = λ found r left room p. rw over_none at (decode_unique p (decodes-frame (0x84 ∷ 0x20 ∷ []) found room 0 (omega arith) refl));
-      no_track = λ found r left room p. decode_unique p (decodes-no-track (0x84 ∷ 0x40 ∷ 0x20 ∷ []) found room refl refl refl);
-      longest_of_4 = λ frame found r left n room p. rw n at (code_unique p (codes-served frame 0 found (omega arith) (omega arith) (rw n room)));
-      longest_of_256 = λ frame found r left n room p. rw n at (code_unique p (codes-served frame 1 found (omega arith) (omega arith) (rw n room)));
-      too_long = λ frame found coding r left n p. code_unique p (codes-too-long frame coding found (omega arith));
+      e1_of_4 = λ found r left room p. rw e1_track at (code_unique p (codes_served (0xe1 ∷ []) 0 found (omega arith) (omega arith) room));
+      e1_of_256 = λ found r left room p. rw e1_long_track at (code_unique p (codes_served (0xe1 ∷ []) 1 found (omega arith) (omega arith) room));
+      empty = λ found r left room p. rw over_none at (decode_unique p (decodes_frame (0x84 ∷ 0x20 ∷ []) found room 0 (omega arith) refl));
+      no_track = λ found r left room p. decode_unique p (decodes_no_track (0x84 ∷ 0x40 ∷ 0x20 ∷ []) found room refl refl refl);
+      longest_of_4 = λ frame found r left n room p. rw n at (code_unique p (codes_served frame 0 found (omega arith) (omega arith) (rw n room)));
+      longest_of_256 = λ frame found r left n room p. rw n at (code_unique p (codes_served frame 1 found (omega arith) (omega arith) (rw n room)));
+      too_long = λ frame found coding r left n p. code_unique p (codes_too_long frame coding found (omega arith));
     }

@@ -20,21 +20,21 @@ framed coding t =
     && eqb (get_or t (length t - 1) 0) end
 
 module _ (coding : ℕ) (t : List ℕ) where
-  pub size-of-framed : framed coding t ≡ true → length t ≡ track_length coding (count_of coding t)
-  size-of-framed h = eqb-true (length t) _ ((and-eq-true_iff _ _).0 ((and-eq-true_iff _ _).0 ((and-eq-true_iff _ _).0 h).0).0).0
+  pub size_of_framed : framed coding t ≡ true → length t ≡ track_length coding (count_of coding t)
+  size_of_framed h = eqb-true (length t) _ ((and-eq-true_iff _ _).0 ((and-eq-true_iff _ _).0 ((and-eq-true_iff _ _).0 h).0).0).0
 
-  track-by-tests : is_track coding t ≡ (framed coding t && are_bytes coding (count_of coding t) (drop 1 t))
+  track_by_tests : is_track coding t ≡ (framed coding t && are_bytes coding (count_of coding t) (drop 1 t))
   unfolding is_track
-  track-by-tests = simp and_assoc
+  track_by_tests = simp and_assoc
 
-  pub length-unframed : framed coding t ≡ false → length_as coding t ≡ suc longest
+  pub length_unframed : framed coding t ≡ false → length_as coding t ≡ suc longest
   unfolding length_as
-  length-unframed h = rw (track-by-tests, h)
+  length_unframed h = rw (track_by_tests, h)
 
-  pub length-too-short : length t < 2 → length_as coding t ≡ suc longest
-  length-too-short h = length-unframed (rw (ne_eqb (length t) (track_length coding (count_of coding t)) (λ e. omega arith)))
+  pub length_too_short : length t < 2 → length_as coding t ≡ suc longest
+  length_too_short h = length_unframed (rw (ne_eqb (length t) (track_length coding (count_of coding t)) (λ e. omega arith)))
 
-  pub length-framed : framed coding t ≡ true
+  pub length_framed : framed coding t ≡ true
       → length_as coding t ≡ cond (are_bytes coding (count_of coding t) (drop 1 t)) (count_of coding t) (suc longest)
   unfolding length_as
-  length-framed h = rw (track-by-tests, h)
+  length_framed h = rw (track_by_tests, h)

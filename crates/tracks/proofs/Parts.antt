@@ -23,9 +23,9 @@ module _ (coding : ℕ) (t : List ℕ) where
   abbrev n : ℕ
   n = count_of coding t
 
-  pub parts-of-track : is_track coding t ≡ true → Parts coding t
+  pub parts_of_track : is_track coding t ≡ true → Parts coding t
   unfolding is_track
-  parts-of-track e =
+  parts_of_track e =
       let units : Bool = are_bytes coding n (drop 1 t) in
       let last : Bool = eqb (get_or t (length t - 1) 0) end in
       let few : Bool = leb n longest in
@@ -42,9 +42,9 @@ module _ (coding : ℕ) (t : List ℕ) where
         bytes = d.1;
       }
 
-  pub track-of-parts : Parts coding t → is_track coding t ≡ true
+  pub track_of_parts : Parts coding t → is_track coding t ≡ true
   unfolding is_track
-  track-of-parts p =
+  track_of_parts p =
       rw (
         eq-eqb (length t) (track_length coding n) p.size,
         eq-eqb (get_or t 0 0) (start coding) p.starts,
@@ -54,17 +54,17 @@ module _ (coding : ℕ) (t : List ℕ) where
       )
 
   -- a length within the limit tells a track
-  pub track-of-length : length_as coding t ≤ longest → is_track coding t ≡ true
+  pub track_of_length : length_as coding t ≤ longest → is_track coding t ≡ true
   unfolding length_as
-  track-of-length h = go (is_track coding t) h
+  track_of_length h = go (is_track coding t) h
     where
       go : (b : Bool) → cond b n (suc longest) ≤ longest → b ≡ true
       go true k = refl
       go false k = absurd (omega arith)
 
-  pub no-track-of-length : longest < length_as coding t → is_track coding t ≡ false
+  pub no_track_of_length : longest < length_as coding t → is_track coding t ≡ false
   unfolding length_as
-  no-track-of-length h = go (is_track coding t) (λ e. (parts-of-track e).short) h
+  no_track_of_length h = go (is_track coding t) (λ e. (parts_of_track e).short) h
     where
       go : (b : Bool) → (b ≡ true → n ≤ longest) → longest < cond b n (suc longest) → b ≡ false
       go true k l =
@@ -72,9 +72,9 @@ module _ (coding : ℕ) (t : List ℕ) where
           absurd (omega arith)
       go false k l = refl
 
-  pub length-of-track : is_track coding t ≡ true → length_as coding t ≡ count_of coding t
+  pub length_of_track : is_track coding t ≡ true → length_as coding t ≡ count_of coding t
   unfolding length_as
-  length-of-track e = rw e
+  length_of_track e = rw e
 
   -- what a length within the limit says of the units
   pub record Units (k : ℕ) : Type 0 where
@@ -85,9 +85,9 @@ module _ (coding : ℕ) (t : List ℕ) where
 
   pub units-of-length : (k : ℕ) → k ≡ length_as coding t → k ≤ longest → Units k
   units-of-length k e h =
-      let is : is_track coding t ≡ true = track-of-length (rw e at h) in
-      let same : k ≡ count_of coding t = e ∙ length-of-track is in
-      let parts : Parts coding t = parts-of-track is in
+      let is : is_track coding t ≡ true = track_of_length (rw e at h) in
+      let same : k ≡ count_of coding t = e ∙ length_of_track is in
+      let parts : Parts coding t = parts_of_track is in
       record {
         track = is;
         count = same;

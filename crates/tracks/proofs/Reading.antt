@@ -32,18 +32,18 @@ module _ (t : List ℕ) (at : ℕ) (inside : at + 64 ≤ length t) where
   length_part = length-take-le 64 (drop at t) (rw length-drop (omega arith))
 
   -- no byte but 00
-  pub lone-blank : 64 ≤ zeros (take 64 (drop at t)) → 256 ≡ lone (take 64 (drop at t))
+  pub lone_blank : 64 ≤ zeros (take 64 (drop at t)) → 256 ≡ lone (take 64 (drop at t))
   unfolding lone pair_of
-  lone-blank h = rw (get_or-eq_default (take 64 (drop at t)) 0 {n = zeros (take 64 (drop at t))} (rw length_part h))
+  lone_blank h = rw (get_or-eq_default (take 64 (drop at t)) 0 {n = zeros (take 64 (drop at t))} (rw length_part h))
 
   module _ (place : ℕ) (first : place ≡ zeros (take 64 (drop at t))) (found : place < 64) where
     -- by the first byte that is not 00, and what is past it
-    pub lone-at : lone (take 64 (drop at t))
+    pub lone_at : lone (take 64 (drop at t))
         ≡ cond (ltb (pair_of (get_or t (at + place) 0)) 4 && eqb (zeros (take (63 - place) (drop (at + place + 1) t))) (63 - place))
         (4 * place + pair_of (get_or t (at + place) 0))
         256
     unfolding lone
-    lone-at =
+    lone_at =
         let past : 64 - suc place ≡ 63 - place = omega arith in
         let next : at + suc place ≡ at + place + 1 = omega arith in
         let rest : drop (suc place) (take 64 (drop at t)) ≡ take (63 - place) (drop (at + place + 1) t) =

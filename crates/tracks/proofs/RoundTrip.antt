@@ -17,7 +17,7 @@ use Rattle.tracks.specs.Steps.{byte_of, are_bytes, bytes_of, count_of, is_track}
 use Rattle.tracks.proofs.Units.{length_coded, length_pulses, length_track, unit_least}
 use Rattle.tracks.proofs.Bytes.{length_bytes_of}
 use Rattle.tracks.proofs.Coded.{byte_of_coded, coded_of_byte}
-use Rattle.tracks.proofs.Parts.{Parts, parts-of-track, track-of-parts}
+use Rattle.tracks.proofs.Parts.{Parts, parts_of_track, track_of_parts}
 
 -- the frame that a track is read as
 unfoldable pub frame_of : ℕ → List ℕ → List ℕ
@@ -98,7 +98,7 @@ parts_of_frame coding frame bs h =
 
 -- what was coded is a track, and its frame is the one that was coded
 pub track_of_frame : (coding : ℕ) (frame : List ℕ) → Bytes frame → length frame ≤ longest → is_track coding (track_of coding frame) ≡ true
-track_of_frame coding frame bs h = track-of-parts coding (track_of coding frame) (parts_of_frame coding frame bs h)
+track_of_frame coding frame bs h = track_of_parts coding (track_of coding frame) (parts_of_frame coding frame bs h)
 
 pub frame_of_track : (coding : ℕ) (frame : List ℕ) → Bytes frame → frame_of coding (track_of coding frame) ≡ frame
 unfolding frame_of track_of
@@ -115,7 +115,7 @@ last_byte t k h e =
 pub coded_of_track : (coding : ℕ) (t : List ℕ) → is_track coding t ≡ true → t ≡ track_of coding (frame_of coding t)
 unfolding frame_of track_of
 coded_of_track coding t e =
-    let parts : Parts coding t = parts-of-track coding t e in
+    let parts : Parts coding t = parts_of_track coding t e in
     let n : ℕ = count_of coding t in
     let u : ℕ = unit coding in
     let first : t ≡ start coding ∷ drop 1 t =
@@ -136,7 +136,7 @@ bytes_are_bytes coding (suc n) t e (suc i) = bytes_are_bytes coding n (drop (uni
 
 pub frame_bytes : (coding : ℕ) (t : List ℕ) → is_track coding t ≡ true → Bytes (frame_of coding t)
 unfolding frame_of
-frame_bytes coding t e = bytes_are_bytes coding (count_of coding t) (drop 1 t) (parts-of-track coding t e).bytes
+frame_bytes coding t e = bytes_are_bytes coding (count_of coding t) (drop 1 t) (parts_of_track coding t e).bytes
 
 pub length_frame_of : (coding : ℕ) (t : List ℕ) → length (frame_of coding t) ≡ count_of coding t
 unfolding frame_of

@@ -7,7 +7,7 @@ use native.Mathlib.Omega.{arith}
 use lib.IntN.{ℤ}
 use Rattle.tracks.specs.Coder.{Codes}
 use Rattle.tracks.specs.Decoder.{Decodes, no_room, a-frame, a-mark, no-track}
-use Rattle.tracks.proofs.Different.{mark_no_track, same-coding, same-frame}
+use Rattle.tracks.proofs.Different.{mark_no_track, same_coding, same_frame}
 
 pub code_unique : {frame : List ℕ} {coding : ℕ} {found : List ℕ} {r s : ℤ} {left right : List ℕ}
     → Codes frame coding found r left → Codes frame coding found s right → (r ≡ s) × (left ≡ right)
@@ -21,7 +21,7 @@ decode_unique (no_room h a b) (a-mark k m u v) = absurd (omega arith)
 decode_unique (no_room h a b) (no-track k none m u v) = absurd (omega arith)
 decode_unique (a-frame h c f is a b) (no_room k u v) = absurd (omega arith)
 decode_unique (a-frame h c f is a b) (a-frame k d g has u v) =
-    (a ∙ rw (same-coding is has, same-frame is has) (sym u), b ∙ rw (same-frame is has) (sym v))
+    (a ∙ rw (same_coding is has, same_frame is has) (sym u), b ∙ rw (same_frame is has) (sym v))
 decode_unique (a-frame h c f is a b) (a-mark k m u v) = absurd (mark_no_track c f (sym is.track ∙ m))
 decode_unique (a-frame h c f is a b) (no-track k none m u v) = absurd (none c f is)
 decode_unique (a-mark h m a b) (no_room k u v) = absurd (omega arith)

@@ -14,19 +14,19 @@ use Rattle.tracks.specs.Steps.{zeros}
 
 module _ (t : List ℕ) (at n i : ℕ) (more : i < n) (inside : at + n ≤ length t) where
   -- the rest of the n bytes from byte i on begins with that byte
-  part-cons : take (n - i) (drop (at + i) t) ≡ get_or t (at + i) 0 ∷ take (n - (i + 1)) (drop (at + (i + 1)) t)
-  part-cons =
+  part_cons : take (n - i) (drop (at + i) t) ≡ get_or t (at + i) 0 ∷ take (n - (i + 1)) (drop (at + (i + 1)) t)
+  part_cons =
       let left : n - i ≡ suc (n - (i + 1)) = omega arith in
       let next : suc (at + i) ≡ at + (i + 1) = omega arith in
       rw (left, drop-cons t (at + i) 0 (omega arith), next)
 
-  pub zeros-more : get_or t (at + i) 0 ≡ 0 → zeros (take (n - i) (drop (at + i) t)) ≡ suc (zeros (take (n - (i + 1)) (drop (at + (i + 1)) t)))
+  pub zeros_more : get_or t (at + i) 0 ≡ 0 → zeros (take (n - i) (drop (at + i) t)) ≡ suc (zeros (take (n - (i + 1)) (drop (at + (i + 1)) t)))
   unfolding zeros
-  zeros-more e = rw (part-cons, eq-eqb (get_or t (at + i) 0) 0 e)
+  zeros_more e = rw (part_cons, eq-eqb (get_or t (at + i) 0) 0 e)
 
-  pub zeros-done : (get_or t (at + i) 0 ≡ 0 → ⊥) → zeros (take (n - i) (drop (at + i) t)) ≡ 0
+  pub zeros_done : (get_or t (at + i) 0 ≡ 0 → ⊥) → zeros (take (n - i) (drop (at + i) t)) ≡ 0
   unfolding zeros
-  zeros-done e = rw (part-cons, ne_eqb (get_or t (at + i) 0) 0 e)
+  zeros_done e = rw (part_cons, ne_eqb (get_or t (at + i) 0) 0 e)
 
 pub zeros_most : (u : List ℕ) → zeros u ≤ length u
 unfolding zeros
@@ -52,4 +52,4 @@ zeros_skip (suc m) t at n i h inside blank =
     let next : (k : ℕ) → at + i + suc k ≡ at + (i + 1) + k = λ k. omega arith in
     let past : i + 1 + m ≡ i + suc m = omega arith in
     let rest = zeros_skip m t at n (i + 1) (omega arith) inside (λ k l. rw (next k) at (blank (suc k) (omega arith))) in
-    omega (arith, zeros-more t at n i (omega arith) inside first, rw past at rest)
+    omega (arith, zeros_more t at n i (omega arith) inside first, rw past at rest)

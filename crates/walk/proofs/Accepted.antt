@@ -51,9 +51,9 @@ by_test true x y p q = p refl
 by_test false x y p q = q refl
 
 module _ (w : Walk) (a : Accepted w) where
-  pub ended-facts : (ending : ℕ) → Accepted (ended ending w)
+  pub ended_facts : (ending : ℕ) → Accepted (ended ending w)
   unfolding ended remade whole_mask
-  ended-facts ending =
+  ended_facts ending =
       record {
         level = a.level;
         slot = a.slot;
@@ -65,9 +65,9 @@ module _ (w : Walk) (a : Accepted w) where
         last_level = a.last_level;
       }
 
-  counted-facts : w.count < 64 → Accepted (counted w)
+  counted_facts : w.count < 64 → Accepted (counted w)
   unfolding counted remade whole_mask
-  counted-facts h =
+  counted_facts h =
       record {
         level = a.level;
         slot = a.slot;
@@ -79,9 +79,9 @@ module _ (w : Walk) (a : Accepted w) where
         last_level = a.last_level;
       }
 
-  marked-facts : w.level + 1 < length w.marks → Accepted (marked w)
+  marked_facts : w.level + 1 < length w.marks → Accepted (marked w)
   unfolding marked remade whole_mask
-  marked-facts h =
+  marked_facts h =
       let m : ℕ = with_mark (get_or w.marks w.level 0) w.slot in
       let own = deepest_set w.marks w.level m (w.level + 1) (omega arith) a.own_level in
       let same : length (set w.marks w.level m) ≡ length w.marks = length-set w.marks w.level m in
@@ -96,9 +96,9 @@ module _ (w : Walk) (a : Accepted w) where
         last_level = omega (arith, own, same);
       }
 
-  pub next-slot-facts : w.slot < 15 → Accepted (at_next_slot w)
+  pub next_slot_facts : w.slot < 15 → Accepted (at_next_slot w)
   unfolding at_next_slot remade whole_mask
-  next-slot-facts h =
+  next_slot_facts h =
       record {
         level = a.level;
         slot = omega arith;
@@ -110,9 +110,9 @@ module _ (w : Walk) (a : Accepted w) where
         last_level = a.last_level;
       }
 
-  pub opened-facts : (j : ℕ) → deepest w.marks ≡ suc j → w.rounds < most_rounds (length w.marks) → Accepted (opened w j)
+  pub opened_facts : (j : ℕ) → deepest w.marks ≡ suc j → w.rounds < most_rounds (length w.marks) → Accepted (opened w j)
   unfolding opened opened_at remade whole_mask
-  opened-facts j is h =
+  opened_facts j is h =
       let s : ℕ = lowest (get_or w.marks j 0) in
       let below : suc j < length w.marks = rw (← is) a.last_level in
       let same : length (set w.marks j (without_mark (get_or w.marks j 0) s)) ≡ length w.marks = length-set w.marks j (without_mark (get_or w.marks j 0) s) in
@@ -128,31 +128,31 @@ module _ (w : Walk) (a : Accepted w) where
         last_level = omega (arith, own, same, below);
       }
 
-  turned-facts : (n : ℕ) → deepest w.marks ≡ n → Accepted (turned w n)
+  turned_facts : (n : ℕ) → deepest w.marks ≡ n → Accepted (turned w n)
   unfolding turned levels_of
-  turned-facts zero is = ended-facts 1
-  turned-facts (suc j) is =
-      by_test (ltb w.rounds (most_rounds (length w.marks))) (opened w j) (ended 4 w) (λ e. opened-facts j is (ltb-true w.rounds (most_rounds (length w.marks)) e)) (λ e. ended-facts 4)
+  turned_facts zero is = ended_facts 1
+  turned_facts (suc j) is =
+      by_test (ltb w.rounds (most_rounds (length w.marks))) (opened w j) (ended 4 w) (λ e. opened_facts j is (ltb-true w.rounds (most_rounds (length w.marks)) e)) (λ e. ended_facts 4)
 
-  passed-facts : Accepted (passed w)
+  passed_facts : Accepted (passed w)
   unfolding passed
-  passed-facts =
-      by_test (ltb w.slot 15) (at_next_slot w) (turned w (deepest w.marks)) (λ e. next-slot-facts (ltb-true w.slot 15 e))
-      (λ e. turned-facts (deepest w.marks) refl)
+  passed_facts =
+      by_test (ltb w.slot 15) (at_next_slot w) (turned w (deepest w.marks)) (λ e. next_slot_facts (ltb-true w.slot 15 e))
+      (λ e. turned_facts (deepest w.marks) refl)
 
   -- where a place for a clean UID is one of 64
   module _ (place : Bool) (few : place ≡ true → w.count < 64) where
-    pub noted-facts : (slot : Slot) → ends_at_once w slot place ≡ 0 → Accepted (noted w slot)
+    pub noted_facts : (slot : Slot) → ends_at_once w slot place ≡ 0 → Accepted (noted w slot)
     unfolding noted
-    noted-facts Silent e = a
-    noted-facts Clashed e = marked-facts (clash_goes_on w place {slot = Clashed} refl e)
-    noted-facts (Clean uid) e = counted-facts (few (clean_goes_on w {slot = Clean uid} {place = place} {uid = uid} refl e))
+    noted_facts Silent e = a
+    noted_facts Clashed e = marked_facts (clash_goes_on w place {slot = Clashed} refl e)
+    noted_facts (Clean uid) e = counted_facts (few (clean_goes_on w {slot = Clean uid} {place = place} {uid = uid} refl e))
 
 after_facts : (w : Walk) → Accepted w → (slot : Slot) (place : Bool) → (place ≡ true → w.count < 64) → Accepted (walk_after w slot place)
 unfolding walk_after
 after_facts w a slot place few =
     by_test (eqb (ends_at_once w slot place) 0) (passed (noted w slot)) (ended (ends_at_once w slot place) w)
-    (λ e. passed-facts (noted w slot) (noted-facts w a place few slot (eqb-true (ends_at_once w slot place) 0 e))) (λ e. ended-facts w a (ends_at_once w slot place))
+    (λ e. passed_facts (noted w slot) (noted_facts w a place few slot (eqb-true (ends_at_once w slot place) 0 e))) (λ e. ended_facts w a (ends_at_once w slot place))
 
 -- after a slot
 pub after_accepted : (w : Walk) (slot : Slot) (place : Bool) → (place ≡ true → w.count < 64) → is_accepted w ≡ true → is_accepted (walk_after w slot place) ≡ true
@@ -160,7 +160,7 @@ after_accepted w slot place few h = is_accepted_of_accepted (walk_after w slot p
 
 -- with any ending
 pub ended_accepted : (w : Walk) (ending : ℕ) → is_accepted w ≡ true → is_accepted (ended ending w) ≡ true
-ended_accepted w ending h = is_accepted_of_accepted (ended ending w) (ended-facts w (accepted_of_is_accepted w h) ending)
+ended_accepted w ending h = is_accepted_of_accepted (ended ending w) (ended_facts w (accepted_of_is_accepted w h) ending)
 
 -- by a test of a call, either way
 heard_either : (b : Bool) (x y : Hearing) → is_accepted x.walk ≡ true → is_accepted y.walk ≡ true → is_accepted (cond b x y).walk ≡ true

@@ -41,20 +41,20 @@ are_marks_freed rack (m ∷ ms) e =
 
 -- how many there are then: of the rack's none, of the free ones those as well, of others as many
 module _ (rack : ℕ) (own : rack ≡ 255 → ⊥) where
-  pub times-freed-own : (ms : List ℕ) → times rack (freed_of rack ms) ≡ 0
+  pub times_freed_own : (ms : List ℕ) → times rack (freed_of rack ms) ≡ 0
   unfolding times tally freed_of
-  times-freed-own [] = refl
-  times-freed-own (m ∷ ms) = go (eqb m rack) refl (times-freed-own ms)
+  times_freed_own [] = refl
+  times_freed_own (m ∷ ms) = go (eqb m rack) refl (times_freed_own ms)
     where
       go : (b : Bool) → eqb m rack ≡ b → times rack (freed_of rack ms) ≡ 0
           → one (eqb (cond b 255 m) rack) + times rack (freed_of rack ms) ≡ 0
       go true is rest = omega (arith, rest, one_other {a = 255} {b = rack} (λ e. own (sym e)))
       go false is rest = omega (arith, rest, one_other {a = m} {b = rack} (eqb-false m rack is))
 
-  pub times-freed-free : (ms : List ℕ) → times 255 (freed_of rack ms) ≡ times 255 ms + times rack ms
+  pub times_freed_free : (ms : List ℕ) → times 255 (freed_of rack ms) ≡ times 255 ms + times rack ms
   unfolding times tally freed_of
-  times-freed-free [] = refl
-  times-freed-free (m ∷ ms) = go (eqb m rack) refl (times-freed-free ms)
+  times_freed_free [] = refl
+  times_freed_free (m ∷ ms) = go (eqb m rack) refl (times_freed_free ms)
     where
       go : (b : Bool) → eqb m rack ≡ b → times 255 (freed_of rack ms) ≡ times 255 ms + times rack ms
           → one (eqb (cond b 255 m) 255) + times 255 (freed_of rack ms) ≡ one (eqb m 255) + times 255 ms + (one (eqb m rack) + times rack ms)
@@ -63,10 +63,10 @@ module _ (rack : ℕ) (own : rack ≡ 255 → ⊥) where
           omega (arith, rest, one_same {a = 255} {b = 255} refl, one_same {a = m} {b = rack} same, one_other {a = m} {b = 255} (λ e. own (sym same ∙ e)))
       go false is rest = omega (arith, rest, one_other {a = m} {b = rack} (eqb-false m rack is))
 
-  pub times-freed-other : (mark : ℕ) → (mark ≡ rack → ⊥) → (mark ≡ 255 → ⊥) → (ms : List ℕ) → times mark (freed_of rack ms) ≡ times mark ms
+  pub times_freed_other : (mark : ℕ) → (mark ≡ rack → ⊥) → (mark ≡ 255 → ⊥) → (ms : List ℕ) → times mark (freed_of rack ms) ≡ times mark ms
   unfolding times tally freed_of
-  times-freed-other mark other held [] = refl
-  times-freed-other mark other held (m ∷ ms) = go (eqb m rack) refl (times-freed-other mark other held ms)
+  times_freed_other mark other held [] = refl
+  times_freed_other mark other held (m ∷ ms) = go (eqb m rack) refl (times_freed_other mark other held ms)
     where
       go : (b : Bool) → eqb m rack ≡ b → times mark (freed_of rack ms) ≡ times mark ms
           → one (eqb (cond b 255 m) mark) + times mark (freed_of rack ms) ≡ one (eqb m mark) + times mark ms

@@ -17,7 +17,7 @@ use Rattle.walk.specs.Record.{places}
 use Rattle.walk.specs.Shared.{marks_of, rows_with, lowest_free, are_marks, owners_fit, freed_of, freed}
 use Rattle.walk.proofs.MarkLists.{one_same, one_other, is_mark, marks_most, marks_all, first_free_most, first_free_below, first_free_is, first_free_lowest}
 use Rattle.walk.proofs.MarkLists.{times_set, are_marks_set}
-use Rattle.walk.proofs.MarksFreed.{length_freed_of, freed_of_get, are_marks_freed, times-freed-own, times-freed-free, times-freed-other}
+use Rattle.walk.proofs.MarksFreed.{length_freed_of, freed_of_get, are_marks_freed, times_freed_own, times_freed_free, times_freed_other}
 
 -- ---- the marks
 
@@ -121,8 +121,8 @@ module _ (owners : List ℕ) (at rack : ℕ) (h : at < 64) (room : 64 ≤ length
         one_other {a = rack} {b = 255} (λ e. omega arith),
       )
 
-  pub taken-other : (mark : ℕ) → (mark ≡ rack → ⊥) → (mark ≡ 255 → ⊥) → rows_with mark (set owners at rack) ≡ rows_with mark owners
-  taken-other mark other held =
+  pub taken_other : (mark : ℕ) → (mark ≡ rack → ⊥) → (mark ≡ 255 → ⊥) → rows_with mark (set owners at rack) ≡ rows_with mark owners
+  taken_other mark other held =
       omega (
         arith,
         rows_with_set mark owners at rack h room,
@@ -130,52 +130,52 @@ module _ (owners : List ℕ) (at rack : ℕ) (h : at < 64) (room : 64 ≤ length
         one_other {a = rack} {b = mark} (λ e. other (sym e)),
       )
 
-  pub taken-fit : owners_fit owners ≡ true → owners_fit (set owners at rack) ≡ true
-  taken-fit e =
+  pub taken_fit : owners_fit owners ≡ true → owners_fit (set owners at rack) ≡ true
+  taken_fit e =
       owners_fit_lem (set owners at rack) (rw (length-set owners at rack) room)
       (rw (marks_set owners at rack h) (are_marks_set (marks_of owners) at rack (rack_is_mark rack few) (owners_fit_of owners e).1))
 
 -- ---- rows freed
 
 module _ (rack : ℕ) (owners : List ℕ) (room : 64 ≤ length owners) where
-  length-freed-marks : length (freed_of rack (marks_of owners)) ≡ 64
-  length-freed-marks = length_freed_of rack (marks_of owners) ∙ length_marks owners room
+  length_freed_marks : length (freed_of rack (marks_of owners)) ≡ 64
+  length_freed_marks = length_freed_of rack (marks_of owners) ∙ length_marks owners room
 
-  pub marks-freed : marks_of (freed rack owners) ≡ freed_of rack (marks_of owners)
+  pub marks_freed : marks_of (freed rack owners) ≡ freed_of rack (marks_of owners)
   unfolding freed marks_of places
-  marks-freed =
-      ap (λ (n : ℕ). take n (over (freed_of rack (take 64 owners)) owners)) (sym length-freed-marks) ∙ take_over (freed_of rack (take 64 owners)) owners
+  marks_freed =
+      ap (λ (n : ℕ). take n (over (freed_of rack (take 64 owners)) owners)) (sym length_freed_marks) ∙ take_over (freed_of rack (take 64 owners)) owners
 
-  pub length-freed : length (freed rack owners) ≡ length owners
+  pub length_freed : length (freed rack owners) ≡ length owners
   unfolding freed
-  length-freed = length_over (freed_of rack (marks_of owners)) owners (omega (arith, length-freed-marks))
+  length_freed = length_over (freed_of rack (marks_of owners)) owners (omega (arith, length_freed_marks))
 
-  pub freed-below : (i : ℕ) → i < 64 → get_or (freed rack owners) i 0 ≡ cond (eqb (get_or owners i 0) rack) 255 (get_or owners i 0)
+  pub freed_below : (i : ℕ) → i < 64 → get_or (freed rack owners) i 0 ≡ cond (eqb (get_or owners i 0) rack) 255 (get_or owners i 0)
   unfolding freed over
-  freed-below i h =
-      get_or-append (freed_of rack (marks_of owners)) _ 0 i (omega (arith, length-freed-marks))
+  freed_below i h =
+      get_or-append (freed_of rack (marks_of owners)) _ 0 i (omega (arith, length_freed_marks))
       ∙ freed_of_get rack (marks_of owners) i (omega (arith, length_marks owners room))
       ∙ rw (marks_get owners i h)
 
-  pub freed-past : (i : ℕ) → 64 ≤ i → get_or (freed rack owners) i 0 ≡ get_or owners i 0
+  pub freed_past : (i : ℕ) → 64 ≤ i → get_or (freed rack owners) i 0 ≡ get_or owners i 0
   unfolding freed over
-  freed-past i h =
+  freed_past i h =
       let s : List ℕ = freed_of rack (marks_of owners) in
-      let place : length s + (i - 64) ≡ i = omega (arith, length-freed-marks) in
+      let place : length s + (i - 64) ≡ i = omega (arith, length_freed_marks) in
       rw (← place) (get_or-append-add s (drop (length s) owners) (i - 64) 0 ∙ get_or-drop (length s) owners (i - 64) 0)
 
-  pub freed-fit : owners_fit owners ≡ true → owners_fit (freed rack owners) ≡ true
-  freed-fit e = owners_fit_lem (freed rack owners) (rw length-freed room) (rw marks-freed (are_marks_freed rack (marks_of owners) (owners_fit_of owners e).1))
+  pub freed_fit : owners_fit owners ≡ true → owners_fit (freed rack owners) ≡ true
+  freed_fit e = owners_fit_lem (freed rack owners) (rw length_freed room) (rw marks_freed (are_marks_freed rack (marks_of owners) (owners_fit_of owners e).1))
 
   module _ (few : rack ≤ 1) where
-    pub freed-own : rows_with rack (freed rack owners) ≡ 0
+    pub freed_own : rows_with rack (freed rack owners) ≡ 0
     unfolding rows_with
-    freed-own = rw marks-freed (times-freed-own rack (λ e. omega arith) (marks_of owners))
+    freed_own = rw marks_freed (times_freed_own rack (λ e. omega arith) (marks_of owners))
 
-    pub freed-free : rows_with 255 (freed rack owners) ≡ rows_with 255 owners + rows_with rack owners
+    pub freed_free : rows_with 255 (freed rack owners) ≡ rows_with 255 owners + rows_with rack owners
     unfolding rows_with
-    freed-free = rw marks-freed (times-freed-free rack (λ e. omega arith) (marks_of owners))
+    freed_free = rw marks_freed (times_freed_free rack (λ e. omega arith) (marks_of owners))
 
-    pub freed-other : (mark : ℕ) → (mark ≡ rack → ⊥) → (mark ≡ 255 → ⊥) → rows_with mark (freed rack owners) ≡ rows_with mark owners
+    pub freed_other : (mark : ℕ) → (mark ≡ rack → ⊥) → (mark ≡ 255 → ⊥) → rows_with mark (freed rack owners) ≡ rows_with mark owners
     unfolding rows_with
-    freed-other mark other held = rw marks-freed (times-freed-other rack (λ e. omega arith) mark other held (marks_of owners))
+    freed_other mark other held = rw marks_freed (times_freed_other rack (λ e. omega arith) mark other held (marks_of owners))

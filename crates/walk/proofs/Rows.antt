@@ -10,7 +10,7 @@ use lib.Dec.{eqb}
 use lib.ListN.{length, set, get_or}
 use Rattle.tails.specs.Sum.{one, tally, times}
 use Rattle.walk.specs.Shared.{marks_of, rows_with, uids_with, list_of, freed_of, freed}
-use Rattle.walk.proofs.Owners.{length_marks, marks_get, marks_set, marks-freed}
+use Rattle.walk.proofs.Owners.{length_marks, marks_get, marks_set, marks_freed}
 
 -- ---- the UIDs with a mark
 
@@ -82,25 +82,25 @@ length_list_of mark rows owners h k = length_uids mark rows (marks_of owners) (o
 
 -- a row taken
 module _ (owners : List ℕ) (at rack : ℕ) (h : at < 64) (room : 64 ≤ length owners) (is : get_or owners at 0 ≡ 255) (few : rack ≤ 1) (rows : List ℕ) (uid : ℕ) where
-  pub list-taken : 64 ≤ length rows → (v : ℕ → ℕ)
+  pub list_taken : 64 ≤ length rows → (v : ℕ → ℕ)
       → tally v (list_of rack (set rows at uid) (set owners at rack)) ≡ tally v (list_of rack rows owners) + v uid
   unfolding list_of
-  list-taken wide v =
+  list_taken wide v =
       rw (marks_set owners at rack h)
       (uids_taken v rack uid at rows (marks_of owners) (omega arith) (omega (arith, length_marks owners room)) (λ e. omega (arith, e, is, marks_get owners at h)))
 
-  pub list-taken-other : (mark : ℕ) → (mark ≡ rack → ⊥) → (mark ≡ 255 → ⊥) → list_of mark (set rows at uid) (set owners at rack) ≡ list_of mark rows owners
+  pub list_taken_other : (mark : ℕ) → (mark ≡ rack → ⊥) → (mark ≡ 255 → ⊥) → list_of mark (set rows at uid) (set owners at rack) ≡ list_of mark rows owners
   unfolding list_of
-  list-taken-other mark other held =
+  list_taken_other mark other held =
       rw (marks_set owners at rack h)
       (uids_other mark uid at rack rows (marks_of owners) (λ e. held (sym e ∙ marks_get owners at h ∙ is)) (λ e. other (sym e)))
 
 -- rows freed
 module _ (rack : ℕ) (rows owners : List ℕ) (room : 64 ≤ length owners) where
-  pub list-freed : rack ≤ 1 → list_of rack rows (freed rack owners) ≡ []
+  pub list_freed : rack ≤ 1 → list_of rack rows (freed rack owners) ≡ []
   unfolding list_of
-  list-freed few = rw (marks-freed rack owners room) (uids_freed rack rows (marks_of owners) (λ e. omega arith))
+  list_freed few = rw (marks_freed rack owners room) (uids_freed rack rows (marks_of owners) (λ e. omega arith))
 
-  pub list-freed-other : (mark : ℕ) → (mark ≡ rack → ⊥) → (mark ≡ 255 → ⊥) → list_of mark rows (freed rack owners) ≡ list_of mark rows owners
+  pub list_freed_other : (mark : ℕ) → (mark ≡ rack → ⊥) → (mark ≡ 255 → ⊥) → list_of mark rows (freed rack owners) ≡ list_of mark rows owners
   unfolding list_of
-  list-freed-other mark other held = rw (marks-freed rack owners room) (uids_freed_other rack mark rows (marks_of owners) other held)
+  list_freed_other mark other held = rw (marks_freed rack owners room) (uids_freed_other rack mark rows (marks_of owners) other held)

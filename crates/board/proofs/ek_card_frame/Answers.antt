@@ -5,7 +5,7 @@ use native.Mathlib.Omega.{arith}
 use mir.ValLaws.{to_z-of_z}
 use mir.Syntax.{w64}
 use Rattle.board.proofs.Told.{frame_told}
-use Rattle.board.proofs.Ways.{gives-frame}
+use Rattle.board.proofs.Ways.{gives_frame}
 use Rattle.board.proofs.ek_card_frame.Goals as goal
 
 pub settle-requires : goal.settle-requires
@@ -20,4 +20,4 @@ returns c =
     let frame = c.frame-served in
     let read = c.read-card in
     rw (to_z-of_z w64 settle.result (sfits_of settle.type_inv))
-    (gives-frame _ _ _ _ _ (rw read.ensures at frame.ensures) settle.ensures)
+    (gives_frame _ _ _ _ _ (rw read.ensures at frame.ensures) settle.ensures)

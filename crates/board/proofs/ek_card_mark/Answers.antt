@@ -5,7 +5,7 @@ use native.Mathlib.Omega.{arith}
 use mir.ValLaws.{to_z-of_z}
 use mir.Syntax.{w64}
 use Rattle.board.proofs.Told.{mark_told}
-use Rattle.board.proofs.Ways.{gives-mark}
+use Rattle.board.proofs.Ways.{gives_mark}
 use Rattle.board.proofs.ek_card_mark.Goals as goal
 
 pub settle-requires : goal.settle-requires
@@ -20,4 +20,4 @@ returns c =
     let mark = c.mark-served in
     let read = c.read-card in
     rw (to_z-of_z w64 settle.result (sfits_of settle.type_inv))
-    (gives-mark _ _ _ _ (rw read.ensures at mark.ensures) settle.ensures)
+    (gives_mark _ _ _ _ (rw read.ensures at mark.ensures) settle.ensures)

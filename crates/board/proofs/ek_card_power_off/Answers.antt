@@ -5,7 +5,7 @@ use native.Mathlib.Omega.{arith}
 use mir.ValLaws.{to_z-of_z}
 use mir.Syntax.{w64}
 use Rattle.board.proofs.Told.{off_told}
-use Rattle.board.proofs.Ways.{gives-off}
+use Rattle.board.proofs.Ways.{gives_off}
 use Rattle.board.proofs.ek_card_power_off.Goals as goal
 
 pub settle-requires : goal.settle-requires
@@ -20,4 +20,4 @@ returns c =
     let power-off = c.power_off-served in
     let read = c.read-card in
     rw (to_z-of_z w64 settle.result (sfits_of settle.type_inv))
-    (gives-off _ _ _ _ (rw read.ensures at power-off.ensures) settle.ensures)
+    (gives_off _ _ _ _ (rw read.ensures at power-off.ensures) settle.ensures)

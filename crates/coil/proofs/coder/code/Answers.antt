@@ -5,20 +5,20 @@ use mir.Syntax.{w64}
 use lib.ListN.{length}
 use Prim.Native.Nat.{◌+◌, ◌*◌}
 use Rattle.frames.specs.Frame.{shortest_answer, longest_answer}
-use Rattle.coil.proofs.CodeWays.{codes-too-short, codes-too-long, codes-no-room, codes-served}
+use Rattle.coil.proofs.CodeWays.{codes_too_short, codes_too_long, codes_no_room, codes_served}
 use Rattle.coil.proofs.coder.code.Goals as goal
 
 pub returns-then-answer-lt-SHORTEST_ANSWER : goal.returns-then-answer-lt-SHORTEST_ANSWER
 unfolding shortest_answer longest_answer
-returns-then-answer-lt-SHORTEST_ANSWER c = codes-too-short _ _ c.if-answer-lt-SHORTEST_ANSWER.true
+returns-then-answer-lt-SHORTEST_ANSWER c = codes_too_short _ _ c.if-answer-lt-SHORTEST_ANSWER.true
 
 pub returns-then-answer-gt-LONGEST_ANSWER : goal.returns-then-answer-gt-LONGEST_ANSWER
 unfolding shortest_answer longest_answer
-returns-then-answer-gt-LONGEST_ANSWER c = codes-too-long _ _ c.if-answer-lt-SHORTEST_ANSWER.false c.if-answer-gt-LONGEST_ANSWER.true
+returns-then-answer-gt-LONGEST_ANSWER c = codes_too_long _ _ c.if-answer-lt-SHORTEST_ANSWER.false c.if-answer-gt-LONGEST_ANSWER.true
 
 pub returns-then-track-n : goal.returns-then-track-n
 unfolding shortest_answer longest_answer
-returns-then-track-n c = codes-no-room _ _ c.if-answer-lt-SHORTEST_ANSWER.false c.if-answer-gt-LONGEST_ANSWER.false c.if-track-n.true
+returns-then-track-n c = codes_no_room _ _ c.if-answer-lt-SHORTEST_ANSWER.false c.if-answer-gt-LONGEST_ANSWER.false c.if-track-n.true
 
 pub returns : goal.returns
 unfolding shortest_answer longest_answer
@@ -28,4 +28,4 @@ returns c =
     let first = c.if-answer-lt-SHORTEST_ANSWER in
     let second = c.if-answer-gt-LONGEST_ANSWER in
     let third = c.if-track-n in
-    rw (to_z_pos w64 (2 + 2 * length args.answer.now) (omega arith), put-track.ensures) (codes-served _ _ first.false second.false third.false)
+    rw (to_z_pos w64 (2 + 2 * length args.answer.now) (omega arith), put-track.ensures) (codes_served _ _ first.false second.false third.false)

@@ -1,10 +1,10 @@
 -- `picture::drawing::put` meets its contract: by the promise of hex's `put_bytes` where there is room. Assumes nothing.
 use native.Mathlib.Omega.{arith}
-use Rattle.digits.proofs.Put.{put-cast, put-at}
+use Rattle.digits.proofs.Put.{put_cast, put_at}
 use Rattle.picture.proofs.drawing.put.Goals as goal
 
 pub overflow_cast-result : goal.overflow_cast-result
-overflow_cast-result c = put-cast c.put_bytes.type_inv c.put_bytes.ensures (omega arith)
+overflow_cast-result c = put_cast c.put_bytes.type_inv c.put_bytes.ensures (omega arith)
 
 pub returns : goal.returns
-returns c = put-at c.put_bytes.type_inv c.put_bytes.ensures (omega arith)
+returns c = put_at c.put_bytes.type_inv c.put_bytes.ensures (omega arith)

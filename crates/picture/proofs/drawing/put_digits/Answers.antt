@@ -1,11 +1,11 @@
 -- `picture::drawing::put_digits` meets its contract: by the promise of hex's `put_digits` where there is room. Assumes nothing.
 use native.Mathlib.Omega.{arith}
 use Rattle.digits.proofs.Digits.{length_hex_digits}
-use Rattle.digits.proofs.Put.{put-cast, put-at}
+use Rattle.digits.proofs.Put.{put_cast, put_at}
 use Rattle.picture.proofs.drawing.put_digits.Goals as goal
 
 pub overflow_cast-result : goal.overflow_cast-result
-overflow_cast-result c = put-cast c.put_digits.type_inv c.put_digits.ensures (rw length_hex_digits (omega arith))
+overflow_cast-result c = put_cast c.put_digits.type_inv c.put_digits.ensures (rw length_hex_digits (omega arith))
 
 pub returns : goal.returns
-returns c = put-at c.put_digits.type_inv c.put_digits.ensures (rw length_hex_digits (omega arith))
+returns c = put_at c.put_digits.type_inv c.put_digits.ensures (rw length_hex_digits (omega arith))

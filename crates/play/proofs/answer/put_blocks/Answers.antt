@@ -4,7 +4,7 @@ use native.Mathlib.Omega.{arith}
 use mathlib.Core.Path.{◌≡◌, refl}
 use Prim.Native.Nat.{◌+◌}
 use lib.ListN.{length, length-set}
-use Rattle.play.proofs.Blocks.{sofar_none, sofar-room, sofar-suc, puts_blocks}
+use Rattle.play.proofs.Blocks.{sofar_none, sofar_room, sofar_suc, puts_blocks}
 use Rattle.play.proofs.Products.{block_within}
 use Rattle.play.proofs.answer.put_blocks.Goals as goal
 
@@ -18,7 +18,7 @@ put_block-at-requires c =
     let loop = c.loop-i in
     let within = block_within (args.first + loop.i) (args.first + args.n) args.size (omega arith) in
     let same = simp length-set at loop.invariant.1 in
-    let room = sofar-room loop.invariant.2 args.n (length args.answer.now) c.loop-i-test.true asked.option_in_bounds in
+    let room = sofar_room loop.invariant.2 args.n (length args.answer.now) c.loop-i-test.true asked.option_in_bounds in
     record { size_in_bounds = omega arith; block_in_bounds = omega arith; option_in_bounds = omega arith }
 
 pub loop-i-preserved : goal.loop-i-preserved
@@ -29,8 +29,8 @@ loop-i-preserved c =
     let test = c.loop-i-test in
     let put-block = c.put_block-at in
     let within = block_within (args.first + loop.i) (args.first + args.n) args.size (omega arith) in
-    let room = sofar-room loop.invariant.2 args.n (length args.answer.now) test.true asked.option_in_bounds in
-    (omega arith, omega arith, sofar-suc loop.invariant.2 put-block.ensures (omega arith) (rw length-set room))
+    let room = sofar_room loop.invariant.2 args.n (length args.answer.now) test.true asked.option_in_bounds in
+    (omega arith, omega arith, sofar_suc loop.invariant.2 put-block.ensures (omega arith) (rw length-set room))
 
 pub returns : goal.returns
 returns c =

@@ -3,7 +3,7 @@
 use native.Mathlib.Omega.{arith}
 use mathlib.Core.Path.{◌≡◌, sym, ◌∙◌}
 use mathlib.Core.Bool.{true, false}
-use Rattle.reader.proofs.Handed.{blocks-few, earned-blocks, block-bytes-blocks, lock-bytes-blocks, hands-blocks, earned-locks, lock-bytes-locks, hands-locks, earned-information, hands-information, earned-nothing, hands-nothing}
+use Rattle.reader.proofs.Handed.{blocks_few, earned_blocks, block_bytes_blocks, lock_bytes_blocks, hands_blocks, earned_locks, lock_bytes_locks, hands_locks, earned_information, hands_information, earned_nothing, hands_nothing}
 use Rattle.reader.proofs.Counts.{count_most}
 use Rattle.reader.specs.Reading.{reads_blocks}
 use Rattle.reader.proofs.answers.hand_over.Goals as goal
@@ -19,10 +19,10 @@ blocks-requires c =
       c.count.ensures,
       lead.ensures,
     ) (record {
-      size_bound = blocks-few args.request is asked.request_value (omega arith);
-      size_in_bounds = omega (arith, earned-blocks args.request is);
-      size_in_bounds_2 = omega (arith, block-bytes-blocks args.request is);
-      lead_in_bounds = omega (arith, lock-bytes-blocks args.request is);
+      size_bound = blocks_few args.request is asked.request_value (omega arith);
+      size_in_bounds = omega (arith, earned_blocks args.request is);
+      size_in_bounds_2 = omega (arith, block_bytes_blocks args.request is);
+      lead_in_bounds = omega (arith, lock_bytes_blocks args.request is);
     })
 
 pub returns-then-reads_blocks : goal.returns-then-reads_blocks
@@ -34,17 +34,17 @@ returns-then-reads_blocks c =
     let blocks2 = c.blocks-then-reads_blocks in
     let is : reads_blocks args.request ≡ true =
     sym reads-blocks.ensures ∙ c.if-reads_blocks.true in
-    hands-blocks args.request is args.part.now args.blocks.now args.locks.now lead.ensures count.ensures blocks2.ensures
+    hands_blocks args.request is args.part.now args.blocks.now args.locks.now lead.ensures count.ensures blocks2.ensures
 
 pub locks-requires : goal.locks-requires
 locks-requires c =
     let args = c.args in
     let reads-blocks = c.reads_blocks in
     let is : reads_blocks args.request ≡ false = sym reads-blocks.ensures ∙ c.if-reads_blocks.false in
-    let all = earned-locks args.request is c.if-request-eq44.true in
+    let all = earned_locks args.request is c.if-request-eq44.true in
     record {
       part_len_bound = omega (arith, count_most args.request (omega arith));
-      part_in_bounds = omega (arith, lock-bytes-locks args.request is c.if-request-eq44.true);
+      part_in_bounds = omega (arith, lock_bytes_locks args.request is c.if-request-eq44.true);
     }
 
 pub returns-then-request-eq44 : goal.returns-then-request-eq44
@@ -53,7 +53,7 @@ returns-then-request-eq44 c =
     let asked = c.requires in
     let reads-blocks = c.reads_blocks in
     let is : reads_blocks args.request ≡ false = sym reads-blocks.ensures ∙ c.if-reads_blocks.false in
-    hands-locks args.request is args.part.now args.blocks.now args.locks.now c.if-request-eq44.true
+    hands_locks args.request is args.part.now args.blocks.now args.locks.now c.if-request-eq44.true
     asked.part_len c.locks.ensures
 
 pub information-requires : goal.information-requires
@@ -61,14 +61,14 @@ information-requires c =
     let args = c.args in
     let reads-blocks = c.reads_blocks in
     let is : reads_blocks args.request ≡ false = sym reads-blocks.ensures ∙ c.if-reads_blocks.false in
-    omega (arith, earned-information args.request is c.if-request-eq44.false c.if-request-eq43.true)
+    omega (arith, earned_information args.request is c.if-request-eq44.false c.if-request-eq43.true)
 
 pub returns-then-request-eq43 : goal.returns-then-request-eq43
 returns-then-request-eq43 c =
     let args = c.args in
     let reads-blocks = c.reads_blocks in
     let is : reads_blocks args.request ≡ false = sym reads-blocks.ensures ∙ c.if-reads_blocks.false in
-    hands-information args.request is args.part.now args.blocks.now args.locks.now c.if-request-eq44.false
+    hands_information args.request is args.part.now args.blocks.now args.locks.now c.if-request-eq44.false
     c.if-request-eq43.true c.information.ensures
 
 pub nothing-requires : goal.nothing-requires
@@ -76,12 +76,12 @@ nothing-requires c =
     let args = c.args in
     let reads-blocks = c.reads_blocks in
     let is : reads_blocks args.request ≡ false = sym reads-blocks.ensures ∙ c.if-reads_blocks.false in
-    omega (arith, earned-nothing args.request is c.if-request-eq44.false c.if-request-eq43.false)
+    omega (arith, earned_nothing args.request is c.if-request-eq44.false c.if-request-eq43.false)
 
 pub returns : goal.returns
 returns c =
     let args = c.args in
     let reads-blocks = c.reads_blocks in
     let is : reads_blocks args.request ≡ false = sym reads-blocks.ensures ∙ c.if-reads_blocks.false in
-    hands-nothing args.request is args.part.now args.blocks.now args.locks.now c.if-request-eq44.false
+    hands_nothing args.request is args.part.now args.blocks.now args.locks.now c.if-request-eq44.false
     c.if-request-eq43.false c.nothing.ensures

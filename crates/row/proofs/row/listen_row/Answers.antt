@@ -1,7 +1,7 @@
 -- `row::row::listen_row` meets its contract: what is sent reaches one card more, and at the end the row is heard (RowPart.antt). Assumes nothing.
 use native.Mathlib.Omega.{arith}
 use Rattle.row.specs.Row.{still_air}
-use Rattle.row.proofs.RowPart.{partly_none, partly_more, partly-air, partly-row}
+use Rattle.row.proofs.RowPart.{partly_none, partly_more, partly_air, partly_row}
 use Rattle.row.proofs.row.listen_row.Goals as goal
 
 pub loop-i-init : goal.loop-i-init
@@ -18,6 +18,6 @@ pub returns : goal.returns
 returns c =
     let loop = c.loop-i in
     record {
-      air = partly-air c.args.walk c.args.row.now loop.i loop.row loop.air loop.invariant (omega arith);
-      row_left = partly-row c.args.walk c.args.row.now loop.i loop.row loop.air loop.invariant (omega arith);
+      air = partly_air c.args.walk c.args.row.now loop.i loop.row loop.air loop.invariant (omega arith);
+      row_left = partly_row c.args.walk c.args.row.now loop.i loop.row loop.air loop.invariant (omega arith);
     }

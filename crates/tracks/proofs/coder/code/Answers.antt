@@ -8,16 +8,16 @@ use Prim.Native.Nat.{ℕ, ◌+◌, ◌*◌}
 use Rattle.tracks.specs.Track.{unit}
 use Rattle.frames.specs.Frame.{longest}
 use Rattle.tracks.proofs.Units.{units_most}
-use Rattle.tracks.proofs.CodeWays.{codes-too-long, codes-no-coding, codes-no-room, codes-served}
+use Rattle.tracks.proofs.CodeWays.{codes_too_long, codes_no_coding, codes_no_room, codes_served}
 use Rattle.tracks.proofs.coder.code.Goals as goal
 
 pub returns-then-frame-gt-LONGEST : goal.returns-then-frame-gt-LONGEST
 unfolding longest
-returns-then-frame-gt-LONGEST c = codes-too-long _ _ _ c.if-frame-gt-LONGEST.true
+returns-then-frame-gt-LONGEST c = codes_too_long _ _ _ c.if-frame-gt-LONGEST.true
 
 pub returns-then-coding-gt1 : goal.returns-then-coding-gt1
 unfolding longest
-returns-then-coding-gt1 c = codes-no-coding _ _ _ c.if-frame-gt-LONGEST.false c.if-coding-gt1.true
+returns-then-coding-gt1 c = codes_no_coding _ _ _ c.if-frame-gt-LONGEST.false c.if-coding-gt1.true
 
 pub overflow_mul-n : goal.overflow_mul-n
 overflow_mul-n c =
@@ -33,7 +33,7 @@ overflow_add-n c =
 
 pub returns-then-track-n : goal.returns-then-track-n
 unfolding longest
-returns-then-track-n c = codes-no-room _ _ _ c.if-frame-gt-LONGEST.false (omega arith) (rw c.unit_of.ensures at c.if-track-n.true)
+returns-then-track-n c = codes_no_room _ _ _ c.if-frame-gt-LONGEST.false (omega arith) (rw c.unit_of.ensures at c.if-track-n.true)
 
 pub put_track-requires : goal.put_track-requires
 put_track-requires c =
@@ -58,4 +58,4 @@ returns c =
             (length args.frame.now),
       )),
       put-track.ensures,
-    ) (codes-served _ _ _ first.false (omega arith) (rw unit-of.ensures at third.false))
+    ) (codes_served _ _ _ first.false (omega arith) (rw unit-of.ensures at third.false))

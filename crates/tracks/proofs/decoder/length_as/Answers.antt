@@ -7,13 +7,13 @@ use native.Mathlib.Omega.{arith}
 use lib.ListN.{length}
 use Rattle.frames.specs.Frame.{longest}
 use Rattle.tracks.specs.Steps.{count_of}
-use Rattle.tracks.proofs.LengthWays.{framed, size-of-framed, length-too-short, length-unframed, length-framed}
+use Rattle.tracks.proofs.LengthWays.{framed, size_of_framed, length_too_short, length_unframed, length_framed}
 use Rattle.tracks.proofs.Units.{unit_least}
 use Rattle.tracks.proofs.decoder.length_as.Goals as goal
 
 pub returns-then-n-lt2 : goal.returns-then-n-lt2
 unfolding longest
-returns-then-n-lt2 c = sym (length-too-short c.args.coding c.args.track.now c.if-n-lt2.true)
+returns-then-n-lt2 c = sym (length_too_short c.args.coding c.args.track.now c.if-n-lt2.true)
 
 pub nonzero_div-count : goal.nonzero_div-count
 nonzero_div-count c = omega (arith, unit_least c.args.coding)
@@ -32,7 +32,7 @@ returns-then-not-framed c =
     let tests : framed args.coding args.track.now ≡ false =
     rw (← c.unit_of-width.ensures, ← c.byte_at.ensures, ← c.start_of.ensures, ← c.byte_at-2.ensures)
     c.if-not-framed.true in
-    sym (length-unframed args.coding args.track.now tests)
+    sym (length_unframed args.coding args.track.now tests)
 
 pub all_bytes-requires : goal.all_bytes-requires
 unfolding count_of longest
@@ -40,7 +40,7 @@ all_bytes-requires c =
     let args = c.args in
     let tests : framed args.coding args.track.now ≡ true =
     rw (← c.unit_of-width.ensures, ← c.byte_at.ensures, ← c.start_of.ensures, ← c.byte_at-2.ensures) c.if-not-framed.false in
-    rw c.unit_of-width.ensures (omega (arith, size-of-framed args.coding args.track.now tests))
+    rw c.unit_of-width.ensures (omega (arith, size_of_framed args.coding args.track.now tests))
 
 pub returns-then-all_bytes : goal.returns-then-all_bytes
 unfolding count_of longest
@@ -48,7 +48,7 @@ returns-then-all_bytes c =
     let args = c.args in
     let tests : framed args.coding args.track.now ≡ true =
     rw (← c.unit_of-width.ensures, ← c.byte_at.ensures, ← c.start_of.ensures, ← c.byte_at-2.ensures) c.if-not-framed.false in
-    sym (length-framed _ _ tests ∙ rw (← c.unit_of-width.ensures, ← c.all_bytes.ensures, c.if-all_bytes.true))
+    sym (length_framed _ _ tests ∙ rw (← c.unit_of-width.ensures, ← c.all_bytes.ensures, c.if-all_bytes.true))
 
 pub returns-else-all_bytes : goal.returns-else-all_bytes
 unfolding count_of longest
@@ -56,4 +56,4 @@ returns-else-all_bytes c =
     let args = c.args in
     let tests : framed args.coding args.track.now ≡ true =
     rw (← c.unit_of-width.ensures, ← c.byte_at.ensures, ← c.start_of.ensures, ← c.byte_at-2.ensures) c.if-not-framed.false in
-    sym (length-framed _ _ tests ∙ rw (← c.unit_of-width.ensures, ← c.all_bytes.ensures, c.if-all_bytes.false))
+    sym (length_framed _ _ tests ∙ rw (← c.unit_of-width.ensures, ← c.all_bytes.ensures, c.if-all_bytes.false))

@@ -2,7 +2,7 @@
 use mathlib.Core.Path.{sym, ◌∙◌}
 use Rattle.walk.proofs.HearWays.{clean_goes_on, after_ending, after_passing}
 use Rattle.walk.proofs.Limits.{accepted_of_is_accepted}
-use Rattle.walk.proofs.Accepted.{noted-facts}
+use Rattle.walk.proofs.Accepted.{noted_facts}
 use Rattle.walk.proofs.hear.take.Goals as goal
 
 pub returns-then-ending-ne0 : goal.returns-then-ending-ne0
@@ -18,7 +18,7 @@ pub pass-requires : goal.pass-requires
 pass-requires c =
     let start = c in
     let goes_on = sym c.ends_at_once-ending.ensures ∙ c.if-ending-ne0.false in
-    rw c.note.ensures.walk_left (noted-facts start.args.walk (accepted_of_is_accepted start.args.walk start.requires.walk_value) start.args.place (λ h. (start.requires.count_bound h).0) start.args.slot goes_on).last_level
+    rw c.note.ensures.walk_left (noted_facts start.args.walk (accepted_of_is_accepted start.args.walk start.requires.walk_value) start.args.place (λ h. (start.requires.count_bound h).0) start.args.slot goes_on).last_level
 
 pub returns : goal.returns
 returns c =

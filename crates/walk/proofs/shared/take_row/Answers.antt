@@ -4,7 +4,7 @@ use mathlib.Core.Path.{sym, ◌∙◌}
 use native.Mathlib.Omega.{arith}
 use Rattle.walk.proofs.HearWays.{clean_goes_on, after_ending, after_passing}
 use Rattle.walk.proofs.Limits.{accepted_of_is_accepted}
-use Rattle.walk.proofs.Accepted.{noted-facts}
+use Rattle.walk.proofs.Accepted.{noted_facts}
 use Rattle.walk.proofs.SharedTests.{row_below}
 use Rattle.walk.proofs.SharedWays.{after_row, ending_owners}
 use Rattle.walk.proofs.shared.take_row.Goals as goal
@@ -38,7 +38,7 @@ pass_row-requires c =
     let start = c in
     let goes_on = sym c.ends_at_once-ending.ensures ∙ c.if-ending-ne0.false in
     let facts = accepted_of_is_accepted start.args.walk start.requires.walk_value in
-    rw c.note.ensures.walk_left (noted-facts start.args.walk facts _ (λ h. (row_below start.args.walk.count c.row_for-at.result h).0) start.args.slot goes_on).last_level
+    rw c.note.ensures.walk_left (noted_facts start.args.walk facts _ (λ h. (row_below start.args.walk.count c.row_for-at.result h).0) start.args.slot goes_on).last_level
 
 pub returns : goal.returns
 returns c =
