@@ -38,15 +38,15 @@ module _ (bytes memory locks found : List ℕ) (o : Outcome) where
     next : Accepted (card_read bytes) memory locks found → is_accepted o.card ≡ true
     next a = f.accepted (passes_of (card_read bytes) (length memory) locks (length found) a).accepted
 
-    card-back : card_read (settled o bytes).bytes ≡ o.card
-    card-back =
+    card_back : card_read (settled o bytes).bytes ≡ o.card
+    card_back =
         left_by bytes memory locks found o f.number f.refuses (λ (left : List ℕ) (c : Card). card_read left ≡ c)
         (λ a. read_of_record o.card bytes (served_length bytes memory locks found a)
         (accepted_fits o.card (next a) (rw f.kept.uid (numbers_read bytes bs).uid)))
         refl
 
-    left-bytes : Numbers o.card → Bytes (settled o bytes).bytes × (length (settled o bytes).bytes ≡ length bytes)
-    left-bytes n =
+    left_bytes : Numbers o.card → Bytes (settled o bytes).bytes × (length (settled o bytes).bytes ≡ length bytes)
+    left_bytes n =
         left_by bytes memory locks found o f.number f.refuses (λ (left : List ℕ) (c : Card). Bytes left × (length left ≡ length bytes))
         (λ a. let is = served_length bytes memory locks found a in (record_bytes o.card bytes (next a) n bs, length_record o.card bytes is ∙ sym is))
         (bs, refl)
@@ -85,17 +85,17 @@ off_follows bytes memory locks found =
 pub frame_reads_back : (bytes frame memory locks found : List ℕ) → Bytes bytes
     → card_read (frame_call bytes frame memory locks found).bytes ≡ (frame_event (card_read bytes) frame memory locks found).card
 frame_reads_back bytes frame memory locks found bs =
-    rw (frame_call_lem bytes frame memory locks found) (card-back bytes memory locks found _ (frame_follows bytes frame memory locks found) bs)
+    rw (frame_call_lem bytes frame memory locks found) (card_back bytes memory locks found _ (frame_follows bytes frame memory locks found) bs)
 
 pub mark_reads_back : (bytes memory locks found : List ℕ) → Bytes bytes
     → card_read (mark_call bytes memory locks found).bytes ≡ (mark_event (card_read bytes) memory locks found).card
 mark_reads_back bytes memory locks found bs =
-    rw (mark_call_lem bytes memory locks found) (card-back bytes memory locks found _ (mark_follows bytes memory locks found) bs)
+    rw (mark_call_lem bytes memory locks found) (card_back bytes memory locks found _ (mark_follows bytes memory locks found) bs)
 
 pub off_reads_back : (bytes memory locks found : List ℕ) → Bytes bytes
     → card_read (off_call bytes memory locks found).bytes ≡ (off_event (card_read bytes) memory locks found).card
 off_reads_back bytes memory locks found bs =
-    rw (off_call_lem bytes memory locks found) (card-back bytes memory locks found _ (off_follows bytes memory locks found) bs)
+    rw (off_call_lem bytes memory locks found) (card_back bytes memory locks found _ (off_follows bytes memory locks found) bs)
 
 -- ---- from bytes, as many
 
@@ -103,16 +103,16 @@ pub frame_leaves_bytes : (bytes frame memory locks found : List ℕ) → Bytes b
     → Bytes (frame_call bytes frame memory locks found).bytes × (length (frame_call bytes frame memory locks found).bytes ≡ length bytes)
 frame_leaves_bytes bytes frame memory locks found bs fs =
     let numbers = frame_event_keeps (card_read bytes) frame memory locks found (numbers_changes frame fs) (numbers_read bytes bs) in
-    rw (frame_call_lem bytes frame memory locks found) (left-bytes bytes memory locks found _ (frame_follows bytes frame memory locks found) bs numbers)
+    rw (frame_call_lem bytes frame memory locks found) (left_bytes bytes memory locks found _ (frame_follows bytes frame memory locks found) bs numbers)
 
 pub mark_leaves_bytes : (bytes memory locks found : List ℕ) → Bytes bytes
     → Bytes (mark_call bytes memory locks found).bytes × (length (mark_call bytes memory locks found).bytes ≡ length bytes)
 mark_leaves_bytes bytes memory locks found bs =
     let numbers = mark_event_keeps (card_read bytes) memory locks found (numbers_changes [] bytes_none) (numbers_read bytes bs) in
-    rw (mark_call_lem bytes memory locks found) (left-bytes bytes memory locks found _ (mark_follows bytes memory locks found) bs numbers)
+    rw (mark_call_lem bytes memory locks found) (left_bytes bytes memory locks found _ (mark_follows bytes memory locks found) bs numbers)
 
 pub off_leaves_bytes : (bytes memory locks found : List ℕ) → Bytes bytes
     → Bytes (off_call bytes memory locks found).bytes × (length (off_call bytes memory locks found).bytes ≡ length bytes)
 off_leaves_bytes bytes memory locks found bs =
     let numbers = off_event_keeps (card_read bytes) memory locks found (numbers_changes [] bytes_none) (numbers_read bytes bs) in
-    rw (off_call_lem bytes memory locks found) (left-bytes bytes memory locks found _ (off_follows bytes memory locks found) bs numbers)
+    rw (off_call_lem bytes memory locks found) (left_bytes bytes memory locks found _ (off_follows bytes memory locks found) bs numbers)

@@ -11,7 +11,7 @@ use lib.Dec.{leb, ltb, eqb}
 use lib.ListN.{length}
 use Rattle.lent.proofs.Over.{take_over}
 use Rattle.frames.specs.Frame.{longest_answer}
-use Rattle.coil.specs.Decoder.{bytes_in, is_framed, is_clash, pair_at, first_bad, bytes_from, Reading, an-answer, a-clash, a-loss, no-track, read_to, reading}
+use Rattle.coil.specs.Decoder.{bytes_in, is_framed, is_clash, pair_at, first_bad, bytes_from, Reading, an_answer, a_clash, a_loss, no_track, read_to, reading}
 use Rattle.coil.specs.Decoder.{number, written, decode_answer, decode_leaves}
 use Rattle.coil.specs.Overlay.{on_coil, AllAre, none, more}
 use Rattle.coil.proofs.Bytes.{length_bytes_from}
@@ -24,34 +24,34 @@ use Rattle.chorus.specs.Air.{clash, heard_as, coil_air, heard_by, NumberHeard, s
 
 -- how many bytes are read: no more than the longest answer has
 unfoldable bytes_read : Reading → ℕ
-bytes_read (an-answer answer) = length answer
-bytes_read (a-clash k) = 0
-bytes_read (a-loss k) = 0
-bytes_read no-track = 0
+bytes_read (an_answer answer) = length answer
+bytes_read (a_clash k) = 0
+bytes_read (a_loss k) = 0
+bytes_read no_track = 0
 
 read_most : (t : List ℕ) → bytes_read (reading t) ≤ longest_answer
 unfolding reading read_to bytes_read
 read_most t = go (is_framed t) refl
   where
     bit : (b c : Bool) (k : ℕ) → bytes_in t ≤ longest_answer
-        → bytes_read (cond b (cond c (a-clash k) (a-loss k)) (an-answer (bytes_from t 0 (bytes_in t)))) ≤ longest_answer
+        → bytes_read (cond b (cond c (a_clash k) (a_loss k)) (an_answer (bytes_from t 0 (bytes_in t)))) ≤ longest_answer
     bit true true k h = omega arith
     bit true false k h = omega arith
     bit false c k h = rw (length_bytes_from t 0 (bytes_in t)) h
 
-    go : (b : Bool) → is_framed t ≡ b → bytes_read (cond b (read_to t (first_bad t)) no-track) ≤ longest_answer
+    go : (b : Bool) → is_framed t ≡ b → bytes_read (cond b (read_to t (first_bad t)) no_track) ≤ longest_answer
     go true e = bit (ltb (first_bad t) (8 * bytes_in t)) (is_clash (pair_at t (first_bad t))) (first_bad t) (framed_of_test t e).most
     go false e = omega arith
 
 -- an answer's length is told under 131,072, all else over it or by a refusal
 heard_of : (x : Reading) (found : List ℕ) → bytes_read x ≤ longest_answer → heard_by (number x) (written x found) ≡ heard_as x
 unfolding heard_by heard_as number written bytes_read longest_answer
-heard_of (an-answer answer) found h =
+heard_of (an_answer answer) found h =
     let same : 131072 * 0 + length answer ≡ length answer = omega arith in
     rw (same, lt-ltb (length answer) 131072 (omega arith), take_over answer found)
-heard_of (a-clash k) found h = rw (le-ltb (131072 * 1 + k) 131072 (omega arith))
-heard_of (a-loss k) found h = rw (le-ltb (131072 * 2 + k) 131072 (omega arith))
-heard_of no-track found h = refl
+heard_of (a_clash k) found h = rw (le-ltb (131072 * 1 + k) 131072 (omega arith))
+heard_of (a_loss k) found h = rw (le-ltb (131072 * 2 + k) 131072 (omega arith))
+heard_of no_track found h = refl
 
 pub number_heard : NumberHeard
 unfolding NumberHeard decode_answer decode_leaves

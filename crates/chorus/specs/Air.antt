@@ -2,7 +2,7 @@
 -- definitions.
 use Rattle.std.specs.Prelude.{ℕ, ◌≤◌, Bool, true, false, cond, ◌&&◌, ◌||◌, List, [], ◌∷◌, ◌≡◌, ltb, eqb, ℤ, pos, negsuc, length, take}
 use Rattle.frames.specs.Frame.{longest_answer}
-use Rattle.coil.specs.Decoder.{Reading, an-answer, a-clash, a-loss, no-track, reading, DecodesAnswer}
+use Rattle.coil.specs.Decoder.{Reading, an_answer, a_clash, a_loss, no_track, reading, DecodesAnswer}
 use Rattle.coil.specs.Overlay.{on_coil, Answers}
 use Rattle.walk.specs.declared.Kind.TheVariants as kinds
 use Rattle.field.specs.Field.{Arrival, arrives}
@@ -18,10 +18,10 @@ whole answer = record { kind = kinds.Bytes; bytes = answer }
 
 -- what the walk is told of a reading. 01: "Each is silent, a clash, or bytes. .. all else is a clash": a lost bit and no track too
 unfoldable pub heard_as : Reading → Arrival
-heard_as (an-answer answer) = whole answer
-heard_as (a-clash k) = clash
-heard_as (a-loss k) = clash
-heard_as no-track = clash
+heard_as (an_answer answer) = whole answer
+heard_as (a_clash k) = clash
+heard_as (a_loss k) = clash
+heard_as no_track = clash
 
 -- the coil as an air: where no card answers there are no pulses, and the slot is silent; else all answers are coded, laid over each other and decoded
 unfoldable pub coil_air : List (List ℕ) → Arrival

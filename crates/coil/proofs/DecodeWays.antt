@@ -9,8 +9,8 @@ use borrow.Author.Tests.{le-leb, lt-leb, le-ltb, lt-ltb}
 use lib.ListN.{length}
 use Rattle.lent.specs.Lent.{over, refused}
 use Rattle.frames.specs.Frame.{longest_answer}
-use Rattle.coil.specs.Decoder.{bytes_in, is_framed, pair_at, is_bad, first_from, first_bad, bytes_from, Reading, an-answer, a-clash}
-use Rattle.coil.specs.Decoder.{a-loss, no-track, read_to, reading, told, number, written, decode_answer, decode_leaves, DecodesAnswer, is_clash}
+use Rattle.coil.specs.Decoder.{bytes_in, is_framed, pair_at, is_bad, first_from, first_bad, bytes_from, Reading, an_answer, a_clash}
+use Rattle.coil.specs.Decoder.{a_loss, no_track, read_to, reading, told, number, written, decode_answer, decode_leaves, DecodesAnswer, is_clash}
 use Rattle.coil.specs.Steps.{bad_bit}
 use Rattle.coil.proofs.Bytes.{length_bytes_from}
 use Rattle.coil.proofs.Framed.{framed_of_test}
@@ -29,14 +29,14 @@ module _ (t found : List ℕ) where
 
     pub decodes_no_track : is_framed t ≡ false → DecodesAnswer t found (refused 12) found
     unfolding reading number written
-    decodes_no_track h = decodes_reading no-track (rw h)
+    decodes_no_track h = decodes_reading no_track (rw h)
 
     module _ (framed : is_framed t ≡ true) where
       pub decodes_answer : 8 * bytes_in t ≤ first_bad t → DecodesAnswer t found (told 0 (bytes_in t)) (over (bytes_from t 0 (bytes_in t)) found)
       unfolding reading read_to number written
       decodes_answer h =
           rw (length_bytes_from t 0 (bytes_in t)) at
-          (decodes_reading (an-answer (bytes_from t 0 (bytes_in t))) (rw (framed, le-ltb (first_bad t) (8 * bytes_in t) h)))
+          (decodes_reading (an_answer (bytes_from t 0 (bytes_in t))) (rw (framed, le-ltb (first_bad t) (8 * bytes_in t) h)))
 
       pub decodes_bad : first_bad t < 8 * bytes_in t → DecodesAnswer t found (pos (bad_bit t (first_bad t))) found
       unfolding reading read_to number written bad_bit
@@ -44,8 +44,8 @@ module _ (t found : List ℕ) where
         where
           go : (b : Bool) → is_clash (pair_at t (first_bad t)) ≡ b
               → DecodesAnswer t found (pos (cond b (131072 + first_bad t) (262144 + first_bad t))) found
-          go true e = decodes_reading (a-clash (first_bad t)) (rw (framed, lt-ltb (first_bad t) (8 * bytes_in t) some, e))
-          go false e = decodes_reading (a-loss (first_bad t)) (rw (framed, lt-ltb (first_bad t) (8 * bytes_in t) some, e))
+          go true e = decodes_reading (a_clash (first_bad t)) (rw (framed, lt-ltb (first_bad t) (8 * bytes_in t) some, e))
+          go false e = decodes_reading (a_loss (first_bad t)) (rw (framed, lt-ltb (first_bad t) (8 * bytes_in t) some, e))
 
 -- ---- what the code computes of a framed track
 

@@ -10,7 +10,7 @@ use Rattle.lent.specs.Lent.{over}
 use Rattle.lent.proofs.Bytes.{bytes_none, bytes_cons}
 use Rattle.frames.specs.Frame.{shortest_answer, longest_answer}
 use Rattle.coil.specs.Track.{pair_of, half, pulses, answer_track}
-use Rattle.coil.specs.Decoder.{an-answer, a-clash, a-loss, is_framed, bytes_in, number, written, reading, read_to, first_bad, first_from, is_bad, pair_at}
+use Rattle.coil.specs.Decoder.{an_answer, a_clash, a_loss, is_framed, bytes_in, number, written, reading, read_to, first_bad, first_from, is_bad, pair_at}
 use Rattle.coil.specs.Coder.{is_answer_length}
 use Rattle.coil.specs.Read.{Codable, Framed}
 use Rattle.coil.specs.Overlay.{overlay, on_coil}
@@ -103,23 +103,23 @@ no_end_framed t other framed =
 -- ---- faults
 
 -- what is read of these eight bytes
-one_read : reading (0x1d ∷ 0xba ∷ 0xaa ∷ 0xa9 ∷ 0x56 ∷ 0xaa ∷ 0x54 ∷ 0xb8 ∷ []) ≡ a-clash 1
+one_read : reading (0x1d ∷ 0xba ∷ 0xaa ∷ 0xa9 ∷ 0x56 ∷ 0xaa ∷ 0x54 ∷ 0xb8 ∷ []) ≡ a_clash 1
 unfolding reading read_to is_framed bytes_in is_answer_length shortest_answer longest_answer first_bad first_from is_bad pair_at
 one_read = refl
 
-four_read : reading (0x1d ∷ 0xaa ∷ 0x2e ∷ 0xa9 ∷ 0x56 ∷ 0xaa ∷ 0x55 ∷ 0xb8 ∷ []) ≡ a-loss 4
+four_read : reading (0x1d ∷ 0xaa ∷ 0x2e ∷ 0xa9 ∷ 0x56 ∷ 0xaa ∷ 0x55 ∷ 0xb8 ∷ []) ≡ a_loss 4
 unfolding reading read_to is_framed bytes_in is_answer_length shortest_answer longest_answer first_bad first_from is_bad pair_at
 four_read = refl
 
-last_read : reading (0x1d ∷ 0xaa ∷ 0xaa ∷ 0xa9 ∷ 0x56 ∷ 0xaa ∷ 0x54 ∷ 0xb8 ∷ []) ≡ a-loss 23
+last_read : reading (0x1d ∷ 0xaa ∷ 0xaa ∷ 0xa9 ∷ 0x56 ∷ 0xaa ∷ 0x54 ∷ 0xb8 ∷ []) ≡ a_loss 23
 unfolding reading read_to is_framed bytes_in is_answer_length shortest_answer longest_answer first_bad first_from is_bad pair_at
 last_read = refl
 
-laid_read : reading (0x1d ∷ 0xba ∷ 0xaa ∷ 0xa9 ∷ 0x56 ∷ 0xaa ∷ 0x55 ∷ 0xb8 ∷ []) ≡ a-clash 1
+laid_read : reading (0x1d ∷ 0xba ∷ 0xaa ∷ 0xa9 ∷ 0x56 ∷ 0xaa ∷ 0x55 ∷ 0xb8 ∷ []) ≡ a_clash 1
 unfolding reading read_to is_framed bytes_in is_answer_length shortest_answer longest_answer first_bad first_from is_bad pair_at
 laid_read = refl
 
-far_read : reading (0x1d ∷ replicate 39 0xaa ++ 0xa8 ∷ 0xb8 ∷ []) ≡ a-loss 159
+far_read : reading (0x1d ∷ replicate 39 0xaa ++ 0xa8 ∷ 0xb8 ∷ []) ≡ a_loss 159
 unfolding reading read_to is_framed bytes_in is_answer_length shortest_answer longest_answer first_bad first_from is_bad pair_at
 far_read = refl
 
@@ -138,7 +138,7 @@ coil =
       each_bit = λ found r left room p. rw bits_track at (coil_code_unique p (codes_served bits found (omega arith) (omega arith) room));
       success = λ found r left room p. rw plain_track at (coil_code_unique p (codes_served plain found (omega arith) (omega arith) room));
       success_read = λ found r left room p.
-          coil_decode_unique p (rw plain_track at (decodes_reading (answer_track plain) found room (an-answer plain) (reading_of_track plain plain_answer)));
+          coil_decode_unique p (rw plain_track at (decodes_reading (answer_track plain) found room (an_answer plain) (reading_of_track plain plain_answer)));
       two_bytes = λ answer found r left n p. coil_code_unique p (codes_too_short answer found (omega arith));
       too_long = λ answer found r left n p. coil_code_unique p (codes_too_long answer found (omega arith) n);
       track_room_short = λ answer found r left least most room p. coil_code_unique p (codes_no_room answer found least most room);
@@ -153,14 +153,14 @@ coil =
           coil_decode_unique p (decodes_no_track t found room (not_framed t (λ framed. absurd (omega (arith, framed.long, odd)))));
       clash_at_0 = λ t found n r left room framed pair p.
           let read = reading_clash n 0 t framed (omega (arith, framed.least)) (λ i h. absurd (omega arith)) pair in
-          coil_decode_unique p (decodes_reading t found room (a-clash 0) read);
+          coil_decode_unique p (decodes_reading t found room (a_clash 0) read);
       lost_at_0 = λ t found n r left room framed pair p.
           let read = reading_loss n 0 t framed (omega (arith, framed.least)) (λ i h. absurd (omega arith)) pair in
-          coil_decode_unique p (decodes_reading t found room (a-loss 0) read);
-      clash_at_1 = λ found r left room p. coil_decode_unique p (decodes_reading _ found room (a-clash 1) one_read);
-      lost_at_4 = λ found r left room p. coil_decode_unique p (decodes_reading _ found room (a-loss 4) four_read);
-      lost_at_23 = λ found r left room p. coil_decode_unique p (decodes_reading _ found room (a-loss 23) last_read);
-      lost_at_159 = λ found r left room p. coil_decode_unique p (decodes_reading _ found room (a-loss 159) far_read);
+          coil_decode_unique p (decodes_reading t found room (a_loss 0) read);
+      clash_at_1 = λ found r left room p. coil_decode_unique p (decodes_reading _ found room (a_clash 1) one_read);
+      lost_at_4 = λ found r left room p. coil_decode_unique p (decodes_reading _ found room (a_loss 4) four_read);
+      lost_at_23 = λ found r left room p. coil_decode_unique p (decodes_reading _ found room (a_loss 23) last_read);
+      lost_at_159 = λ found r left room p. coil_decode_unique p (decodes_reading _ found room (a_loss 159) far_read);
       laid_over = laid;
       laid_over_read = laid_read;
     }

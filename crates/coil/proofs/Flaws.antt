@@ -90,18 +90,18 @@ module _ (t : List ℕ) (i : ℕ) where
     pub bad : is_bad t (4 * i + q) ≡ true
     pub before : (j : ℕ) → j < q → is_bad t (4 * i + j) ≡ false
 
-  flaw-at : (q : ℕ) → q < 4 → 1 ≤ flaw (pair_in (get_or t (1 + i) 0) q) → flaws (get_or t (1 + i) 0) < 4 ^ (4 - q) → FirstFlaw q
+  flaw_at : (q : ℕ) → q < 4 → 1 ≤ flaw (pair_in (get_or t (1 + i) 0) q) → flaws (get_or t (1 + i) 0) < 4 ^ (4 - q) → FirstFlaw q
   unfolding is_bad
-  flaw-at q h some few =
+  flaw_at q h some few =
       record {
         within = h;
         bad = rw (pair_in_lem t i q h) (flaw_some (pair_in (get_or t (1 + i) 0) q) some);
         before = λ j l. rw (pair_in_lem t i j (omega arith)) (flaw_none (pair_in (get_or t (1 + i) 0) j) (none_before (get_or t (1 + i) 0) q j l h few));
       }
 
-  pub first-flaw : (flaws (get_or t (1 + i) 0) ≡ 0 → ⊥) → FirstFlaw (first_of (flaws (get_or t (1 + i) 0)))
+  pub first_flaw : (flaws (get_or t (1 + i) 0) ≡ 0 → ⊥) → FirstFlaw (first_of (flaws (get_or t (1 + i) 0)))
   unfolding flaws first_of
-  first-flaw some =
+  first_flaw some =
       go (dec_le 64 f) (dec_le 16 f) (dec_le 4 f) (flaw_most (b / 64 % 4)) (flaw_most (b / 16 % 4)) (flaw_most (b / 4 % 4)) (flaw_most (b % 4))
     where
       b : ℕ
@@ -112,13 +112,13 @@ module _ (t : List ℕ) (i : ℕ) where
 
       go : Dec (64 ≤ f) → Dec (16 ≤ f) → Dec (4 ≤ f) → flaw (b / 64 % 4) ≤ 1 → flaw (b / 16 % 4) ≤ 1 → flaw (b / 4 % 4) ≤ 1 → flaw (b % 4) ≤ 1
           → FirstFlaw (first_of f)
-      go (yes h) c d p q r s = rw (le-leb 64 f h) (flaw-at 0 (omega arith) (omega arith) (omega arith))
-      go (no h) (yes g) d p q r s = rw (lt-leb 64 f (omega arith), le-leb 16 f g) (flaw-at 1 (omega arith) (omega arith) (omega arith))
+      go (yes h) c d p q r s = rw (le-leb 64 f h) (flaw_at 0 (omega arith) (omega arith) (omega arith))
+      go (no h) (yes g) d p q r s = rw (lt-leb 64 f (omega arith), le-leb 16 f g) (flaw_at 1 (omega arith) (omega arith) (omega arith))
       go (no h) (no g) (yes k) p q r s =
-          rw (lt-leb 64 f (omega arith), lt-leb 16 f (omega arith), le-leb 4 f k) (flaw-at 2 (omega arith) (omega arith) (omega arith))
+          rw (lt-leb 64 f (omega arith), lt-leb 16 f (omega arith), le-leb 4 f k) (flaw_at 2 (omega arith) (omega arith) (omega arith))
       go (no h) (no g) (no k) p q r s =
           rw (lt-leb 64 f (omega arith), lt-leb 16 f (omega arith), lt-leb 4 f (omega arith))
-          (flaw-at 3 (omega arith) (omega (arith, last_pair b)) (omega arith))
+          (flaw_at 3 (omega arith) (omega (arith, last_pair b)) (omega arith))
 
 pub first_of_most : (f : ℕ) → first_of f ≤ 3
 unfolding first_of
@@ -160,11 +160,11 @@ pub first_in_byte : (t : List ℕ) (i n : ℕ) → i < n → ((j : ℕ) → j < 
     → 4 * i + first_of (flaws (get_or t (1 + i) 0)) ≡ first_from (is_bad t) 0 (4 * n)
 first_in_byte t i n h good some =
     let q : ℕ = first_of (flaws (get_or t (1 + i) 0)) in
-    let f : FirstFlaw t i q = first-flaw t i some in
+    let f : FirstFlaw t i q = first_flaw t i some in
     sym (first_is (record { least = omega arith; most = omega (arith, f.within); holds = λ l. f.bad; fails = λ j l g. before j g (dec_lt j (4 * i)) }))
   where
     before : (j : ℕ) → j < 4 * i + first_of (flaws (get_or t (1 + i) 0)) → Dec (j < 4 * i) → is_bad t j ≡ false
     before j g (yes l) = good j l
     before j g (no l) =
         let place : j ≡ 4 * i + (j - 4 * i) = omega arith in
-        rw place ((first-flaw t i some).before (j - 4 * i) (omega arith))
+        rw place ((first_flaw t i some).before (j - 4 * i) (omega arith))

@@ -12,7 +12,7 @@ use lib.ListN.{length, get_or}
 use Rattle.frames.specs.Frame.{shortest_answer, longest_answer}
 use Rattle.coil.specs.Track.{start, end, answer_track_length}
 use Rattle.coil.specs.Coder.{is_answer_length}
-use Rattle.coil.specs.Decoder.{bytes_in, is_framed, pair_at, is_clash, is_lost, is_bad, first_from, first_bad, bytes_from, an-answer, a-clash, a-loss, read_to, reading}
+use Rattle.coil.specs.Decoder.{bytes_in, is_framed, pair_at, is_clash, is_lost, is_bad, first_from, first_bad, bytes_from, an_answer, a_clash, a_loss, read_to, reading}
 use Rattle.coil.specs.Read.{Framed, Good, zero_bit, one_bit, GoodBefore}
 use Rattle.coil.proofs.First.{First, first_from_lem, first_is, first_none}
 
@@ -82,9 +82,9 @@ pair_below t i = omega arith
 
 -- the pairs of n bytes: all are good, or the first that is not
 pub data Judged (n : ℕ) (t : List ℕ) : Type 0 where
-  all-good : GoodBefore (8 * n) t → Judged n t
-  clash-at : (k : ℕ) → k < 8 * n → GoodBefore k t → pair_at t k ≡ 3 → Judged n t
-  loss-at : (k : ℕ) → k < 8 * n → GoodBefore k t → pair_at t k ≡ 0 → Judged n t
+  all_good : GoodBefore (8 * n) t → Judged n t
+  clash_at : (k : ℕ) → k < 8 * n → GoodBefore k t → pair_at t k ≡ 3 → Judged n t
+  loss_at : (k : ℕ) → k < 8 * n → GoodBefore k t → pair_at t k ≡ 0 → Judged n t
 
 pub judged : (n : ℕ) (t : List ℕ) → Judged n t
 unfolding is_bad
@@ -100,16 +100,16 @@ judged n t = go (dec_lt k (8 * n))
     good i h = test_good (pair_at t i) (pair_below t i) (first.fails i (omega arith) h)
 
     bad : (b : Bool) → is_clash (pair_at t k) ≡ b → (b || is_lost (pair_at t k)) ≡ true → k < 8 * n → Judged n t
-    bad true e o h = clash-at k h good (eqb-true (pair_at t k) 3 e)
-    bad false e o h = loss-at k h good (eqb-true (pair_at t k) 0 o)
+    bad true e o h = clash_at k h good (eqb-true (pair_at t k) 3 e)
+    bad false e o h = loss_at k h good (eqb-true (pair_at t k) 0 o)
 
     go : Dec (k < 8 * n) → Judged n t
     go (yes h) = bad (is_clash (pair_at t k)) refl (first.holds (omega arith)) h
-    go (no h) = all-good (λ i g. good i (omega arith))
+    go (no h) = all_good (λ i g. good i (omega arith))
 
 -- ---- what is read of a framed track
 
-pub reading_answer : (n : ℕ) (t : List ℕ) → Framed n t → GoodBefore (8 * n) t → reading t ≡ an-answer (bytes_from t 0 n)
+pub reading_answer : (n : ℕ) (t : List ℕ) → Framed n t → GoodBefore (8 * n) t → reading t ≡ an_answer (bytes_from t 0 n)
 unfolding reading read_to first_bad is_bad
 reading_answer n t p good =
     rw (
@@ -124,10 +124,10 @@ module _ (n k : ℕ) (t : List ℕ) (p : Framed n t) (h : k < 8 * n) (good : Goo
   unfolding is_bad
   first_at bad = record { least = omega arith; most = omega arith; holds = λ g. bad; fails = λ i g l. good_test (good i l) }
 
-  pub reading_clash : pair_at t k ≡ 3 → reading t ≡ a-clash k
+  pub reading_clash : pair_at t k ≡ 3 → reading t ≡ a_clash k
   unfolding reading read_to first_bad
   reading_clash e = rw (test_of_framed n t p, bytes_of_framed n t p, first_is (first_at (rw e)), lt-ltb k (8 * n) h, e)
 
-  pub reading_loss : pair_at t k ≡ 0 → reading t ≡ a-loss k
+  pub reading_loss : pair_at t k ≡ 0 → reading t ≡ a_loss k
   unfolding reading read_to first_bad
   reading_loss e = rw (test_of_framed n t p, bytes_of_framed n t p, first_is (first_at (rw e)), lt-ltb k (8 * n) h, e)

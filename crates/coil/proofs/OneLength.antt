@@ -14,7 +14,7 @@ use lib.ListN.{length}
 use Rattle.lent.specs.Bytes.{Bytes}
 use Rattle.lent.proofs.Every.{every, every_at}
 use Rattle.coil.specs.Track.{bit, pair_of, answer_track}
-use Rattle.coil.specs.Decoder.{pair_at, first_from, an-answer, reading}
+use Rattle.coil.specs.Decoder.{pair_at, first_from, an_answer, reading}
 use Rattle.coil.specs.Read.{Codable, Framed, GoodBefore}
 use Rattle.coil.specs.Overlay.{overlay, on_coil, Answers, OfLength, AllAre, none, more, alike_at, FirstUnlike}
 use Rattle.coil.proofs.First.{First, first_from_lem}
@@ -30,7 +30,7 @@ unfolding on_coil
 coil_of_identical a [] none = overlay_none (answer_track a)
 coil_of_identical a (r ∷ rs) (more e es) = rw (e, coil_of_identical a rs es) (overlay_self (answer_track a))
 
-pub identical : (a : List ℕ) (rs : List (List ℕ)) → Codable a → AllAre a rs → reading (on_coil (a ∷ rs)) ≡ an-answer a
+pub identical : (a : List ℕ) (rs : List (List ℕ)) → Codable a → AllAre a rs → reading (on_coil (a ∷ rs)) ≡ an_answer a
 unfolding on_coil
 identical a rs p es = rw (coil_of_identical a rs es) (reading_of_track a p)
 

@@ -8,10 +8,10 @@ use native.Mathlib.Numerals.{one-add}
 use mathlib.Core.List.{List, [], ◌∷◌}
 use lib.ListN.{length, get_or}
 use Rattle.coil.specs.Track.{end, answer_track}
-use Rattle.coil.specs.Decoder.{pair_at, a-clash, reading}
+use Rattle.coil.specs.Decoder.{pair_at, a_clash, reading}
 use Rattle.coil.specs.Overlay.{on_coil, Answers, OfLength, AllAre, none, more, Overlays}
 use Rattle.coil.proofs.Pairs.{good_range, track_end_pair}
-use Rattle.coil.proofs.Framed.{Judged, all-good, clash-at, loss-at, judged, reading_clash}
+use Rattle.coil.proofs.Framed.{Judged, all_good, clash_at, loss_at, judged, reading_clash}
 use Rattle.coil.proofs.Flaws.{pair_in_lem}
 use Rattle.coil.proofs.Union.{pair_overlay, or_least_l, or_least_r, greatest, framed_coil, coil_not_lost}
 use Rattle.coil.proofs.OneLength.{identical, different, two}
@@ -33,7 +33,7 @@ lengths_of_good n (r ∷ rs) h few = more (long (dec_lt (length r) n)) (lengths_
         absurd (omega (arith, (at last).0, few last (omega arith), track_end_pair r))
     long (no g) = omega arith
 
-any_lengths : (a : List ℕ) (rs : List (List ℕ)) → Answers (a ∷ rs) → (AllAre a rs → ⊥) → (k : ℕ) × (reading (on_coil (a ∷ rs)) ≡ a-clash k)
+any_lengths : (a : List ℕ) (rs : List (List ℕ)) → Answers (a ∷ rs) → (AllAre a rs → ⊥) → (k : ℕ) × (reading (on_coil (a ∷ rs)) ≡ a_clash k)
 any_lengths a rs ps differ = go (judged n t)
   where
     n : ℕ
@@ -42,12 +42,12 @@ any_lengths a rs ps differ = go (judged n t)
     t : List ℕ
     t = on_coil (a ∷ rs)
 
-    go : Judged n t → (k : ℕ) × (reading t ≡ a-clash k)
-    go (all-good good) =
+    go : Judged n t → (k : ℕ) × (reading t ≡ a_clash k)
+    go (all_good good) =
         let unlike = different n a rs ps (lengths_of_good n (a ∷ rs) (omega arith) (λ i h. (good_range (good i h)).1)) differ in
         (unlike.place, unlike.clash)
-    go (clash-at k h good e) = (k, reading_clash n k t (framed_coil a rs ps) h good e)
-    go (loss-at k h good e) = absurd (omega (arith, coil_not_lost (a ∷ rs) ps k h))
+    go (clash_at k h good e) = (k, reading_clash n k t (framed_coil a rs ps) h good e)
+    go (loss_at k h good e) = absurd (omega (arith, coil_not_lost (a ∷ rs) ps k h))
 
 -- the last pair of the end is 00, and no other byte of a track has such a pair there
 end_alone : (a : List ℕ) (rs : List (List ℕ)) → Answers (a ∷ rs) → (j : ℕ) → suc j < length (on_coil (a ∷ rs)) → get_or (on_coil (a ∷ rs)) j 0 ≡ end → ⊥

@@ -9,9 +9,9 @@ use lib.IntN.{ℤ}
 use lib.ListN.{length}
 use Rattle.lent.specs.Bytes.{Bytes}
 use Rattle.frames.specs.Frame.{longest_answer}
-use Rattle.coil.specs.Decoder.{is_framed, bytes_in, bytes_from, Reading, an-answer, a-clash, a-loss, no-track, reading, number, written, DecodesAnswer}
-use Rattle.coil.specs.Read.{Framed, TrackReads, answer-read, clash_read, loss-read, none_read, Tells}
-use Rattle.coil.proofs.Framed.{Judged, all-good, clash-at, loss-at, judged, test_of_framed, framed_of_test, reading_answer, reading_clash, reading_loss}
+use Rattle.coil.specs.Decoder.{is_framed, bytes_in, bytes_from, Reading, an_answer, a_clash, a_loss, no_track, reading, number, written, DecodesAnswer}
+use Rattle.coil.specs.Read.{Framed, TrackReads, answer_read, clash_read, loss_read, none_read, Tells}
+use Rattle.coil.proofs.Framed.{Judged, all_good, clash_at, loss_at, judged, test_of_framed, framed_of_test, reading_answer, reading_clash, reading_loss}
 use Rattle.coil.proofs.DecodeWays.{decodes_reading}
 use Rattle.coil.proofs.Inverse.{track_read, answer_read_is}
 use Rattle.coil.proofs.Unique.{coil_decode_unique}
@@ -23,15 +23,15 @@ module _ (t found : List ℕ) (r : ℤ) (left : List ℕ) (room : longest_answer
 
   by_pairs : (n : ℕ) → Bytes t → Framed n t → Judged n t → TrackReads t found r left
   unfolding number written
-  by_pairs n bytes framed (all-good good) =
-      let result = told_as (an-answer (bytes_from t 0 n)) (reading_answer n t framed good) in
-      answer-read (bytes_from t 0 n) (answer_read_is n t bytes framed good) (track_read n t bytes framed good) (rw zero-add at result.0) result.1
-  by_pairs n bytes framed (clash-at k h good pair) =
-      let result = told_as (a-clash k) (reading_clash n k t framed h good pair) in
+  by_pairs n bytes framed (all_good good) =
+      let result = told_as (an_answer (bytes_from t 0 n)) (reading_answer n t framed good) in
+      answer_read (bytes_from t 0 n) (answer_read_is n t bytes framed good) (track_read n t bytes framed good) (rw zero-add at result.0) result.1
+  by_pairs n bytes framed (clash_at k h good pair) =
+      let result = told_as (a_clash k) (reading_clash n k t framed h good pair) in
       clash_read n k framed h good pair result.0 result.1
-  by_pairs n bytes framed (loss-at k h good pair) =
-      let result = told_as (a-loss k) (reading_loss n k t framed h good pair) in
-      loss-read n k framed h good pair result.0 result.1
+  by_pairs n bytes framed (loss_at k h good pair) =
+      let result = told_as (a_loss k) (reading_loss n k t framed h good pair) in
+      loss_read n k framed h good pair result.0 result.1
 
   pub what_is_read : Bytes t → TrackReads t found r left
   unfolding reading number written
@@ -40,15 +40,15 @@ module _ (t found : List ℕ) (r : ℤ) (left : List ℕ) (room : longest_answer
       go : (b : Bool) → is_framed t ≡ b → TrackReads t found r left
       go true e = by_pairs (bytes_in t) bytes (framed_of_test t e) (judged (bytes_in t) t)
       go false e =
-          let result = told_as no-track (rw e) in
+          let result = told_as no_track (rw e) in
           none_read (λ n framed. false≢true (sym e ∙ test_of_framed n t framed)) result.0 result.1
 
   pub what_is_told : Tells t found r left
   unfolding number written
   what_is_told =
       record {
-        of_answer = λ answer is. rw zero-add at (told_as (an-answer answer) is);
-        of_clash = λ k is. told_as (a-clash k) is;
-        of_loss = λ k is. told_as (a-loss k) is;
-        of_none = λ is. told_as no-track is;
+        of_answer = λ answer is. rw zero-add at (told_as (an_answer answer) is);
+        of_clash = λ k is. told_as (a_clash k) is;
+        of_loss = λ k is. told_as (a_loss k) is;
+        of_none = λ is. told_as no_track is;
       }

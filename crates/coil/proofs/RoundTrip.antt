@@ -12,7 +12,7 @@ use lib.Seq.{ext_get_or}
 use Rattle.lent.specs.Bytes.{Bytes}
 use Rattle.lent.proofs.Every.{every, every_at}
 use Rattle.coil.specs.Track.{bit, pair_of, answer_track}
-use Rattle.coil.specs.Decoder.{pair_at, bit_at, byte_at, bytes_from, an-answer, reading}
+use Rattle.coil.specs.Decoder.{pair_at, bit_at, byte_at, bytes_from, an_answer, reading}
 use Rattle.coil.specs.Read.{Codable, Framed}
 use Rattle.coil.proofs.Pairs.{length_track, track_start, track_end, pair_good, track_pair}
 use Rattle.coil.proofs.Framed.{reading_answer}
@@ -94,14 +94,14 @@ bytes_from_are t (v ∷ l) i same =
     next j = omega arith
 
 pub reading_of_pairs : (t a : List ℕ) → Codable a → Framed (length a) t → ((i : ℕ) → i < 8 * length a → pair_at t i ≡ pair_of (bit a i))
-    → reading t ≡ an-answer a
+    → reading t ≡ an_answer a
 reading_of_pairs t a p f pairs =
     reading_answer (length a) t f (λ i h. rw (pairs i h) (pair_good (bit a i)))
-    ∙ ap an-answer
+    ∙ ap an_answer
     (bytes_from_are t a 0 (λ j h. rw zero-add (byte_of_pairs t a j (p.bytes j) (λ k g. pairs (8 * j + k) (omega arith)))))
 
 pub framed_track : (a : List ℕ) → Codable a → Framed (length a) (answer_track a)
 framed_track a p = record { least = p.least; most = p.most; long = length_track a; starts = track_start a; ends = track_end a }
 
-pub reading_of_track : (a : List ℕ) → Codable a → reading (answer_track a) ≡ an-answer a
+pub reading_of_track : (a : List ℕ) → Codable a → reading (answer_track a) ≡ an_answer a
 reading_of_track a p = reading_of_pairs (answer_track a) a p (framed_track a p) (λ i h. track_pair a i p.bytes h)

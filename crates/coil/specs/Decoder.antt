@@ -67,20 +67,20 @@ bytes_from t i (suc n) = byte_at t i ∷ bytes_from t (suc i) n
 
 -- an answer's bytes, a clash or a lost bit at its place, or no track at all
 pub data Reading : Type 0 where
-  an-answer : List ℕ → Reading
-  a-clash : ℕ → Reading
-  a-loss : ℕ → Reading
-  no-track : Reading
+  an_answer : List ℕ → Reading
+  a_clash : ℕ → Reading
+  a_loss : ℕ → Reading
+  no_track : Reading
 
 -- by the first bit that is bad, if there is one
 unfoldable pub read_to : List ℕ → ℕ → Reading
 read_to t k =
     cond (ltb k (8 * bytes_in t))
-    (cond (is_clash (pair_at t k)) (a-clash k) (a-loss k))
-    (an-answer (bytes_from t 0 (bytes_in t)))
+    (cond (is_clash (pair_at t k)) (a_clash k) (a_loss k))
+    (an_answer (bytes_from t 0 (bytes_in t)))
 
 unfoldable pub reading : List ℕ → Reading
-reading t = cond (is_framed t) (read_to t (first_bad t)) no-track
+reading t = cond (is_framed t) (read_to t (first_bad t)) no_track
 
 -- ---- what the decoder gives back and leaves
 
@@ -89,17 +89,17 @@ abbrev pub told : ℕ → ℕ → ℤ
 told kind n = pos (131072 * kind + n)
 
 unfoldable pub number : Reading → ℤ
-number (an-answer answer) = told 0 (length answer)
-number (a-clash k) = told 1 k
-number (a-loss k) = told 2 k
-number no-track = refused 12
+number (an_answer answer) = told 0 (length answer)
+number (a_clash k) = told 1 k
+number (a_loss k) = told 2 k
+number no_track = refused 12
 
 -- an answer is written, and the bytes past it stay as found; else it "writes nothing"
 unfoldable pub written : Reading → List ℕ → List ℕ
-written (an-answer answer) found = over answer found
-written (a-clash k) found = found
-written (a-loss k) found = found
-written no-track found = found
+written (an_answer answer) found = over answer found
+written (a_clash k) found = found
+written (a_loss k) found = found
+written no_track found = found
 
 -- "8 asks .. 8,451 to decode; 12, after 8"
 unfoldable pub decode_answer : List ℕ → ℕ → ℤ

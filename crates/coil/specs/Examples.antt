@@ -3,7 +3,7 @@
 use Rattle.std.specs.Prelude.{ℕ, suc, ◌+◌, ◌-◌, ◌*◌, ◌≤◌, ◌<◌, List, [], ◌∷◌, ◌++◌, ◌≡◌, ℤ, pos, length, get_or, replicate}
 use Rattle.lent.specs.Lent.{over, refused}
 use Rattle.coil.specs.Coder.{CodesAnswer}
-use Rattle.coil.specs.Decoder.{pair_at, a-clash, reading, DecodesAnswer}
+use Rattle.coil.specs.Decoder.{pair_at, a_clash, reading, DecodesAnswer}
 use Rattle.coil.specs.Read.{Framed}
 use Rattle.coil.specs.Overlay.{on_coil}
 
@@ -57,4 +57,4 @@ pub record Coil : Type 0 where
       → (r ≡ pos 262303) × (left ≡ found)
   -- "Overlaying is the union of pulses": 00 78 F0 over 02 78 F0, which differ in bit 1
   pub laid_over : on_coil ((0x00 ∷ 0x78 ∷ 0xf0 ∷ []) ∷ (0x02 ∷ 0x78 ∷ 0xf0 ∷ []) ∷ []) ≡ 0x1d ∷ 0xba ∷ 0xaa ∷ 0xa9 ∷ 0x56 ∷ 0xaa ∷ 0x55 ∷ 0xb8 ∷ []
-  pub laid_over_read : reading (0x1d ∷ 0xba ∷ 0xaa ∷ 0xa9 ∷ 0x56 ∷ 0xaa ∷ 0x55 ∷ 0xb8 ∷ []) ≡ a-clash 1
+  pub laid_over_read : reading (0x1d ∷ 0xba ∷ 0xaa ∷ 0xa9 ∷ 0x56 ∷ 0xaa ∷ 0x55 ∷ 0xb8 ∷ []) ≡ a_clash 1

@@ -2,7 +2,7 @@
 use Rattle.std.specs.Prelude.{ℕ, suc, ◌*◌, ◌<◌, Bool, true, false, ◌&&◌, List, [], ◌∷◌, ◌≡◌, eqb, length, get_or}
 use Rattle.std.specs.Int.Bits.{bit_or}
 use Rattle.coil.specs.Track.{end, bit, answer_track}
-use Rattle.coil.specs.Decoder.{Reading, an-answer, a-clash, reading}
+use Rattle.coil.specs.Decoder.{Reading, an_answer, a_clash, reading}
 use Rattle.coil.specs.Read.{Codable}
 
 -- the union of two tracks: a unit has pulses where one of them has. Where one is longer, its rest stays
@@ -42,12 +42,12 @@ pub record FirstUnlike (n : ℕ) (a : List ℕ) (rs : List (List ℕ)) (read : R
   pub inside : place < 8 * n
   pub alike_before : (i : ℕ) → i < place → alike_at i a rs ≡ true
   pub unlike : alike_at place a rs ≡ false
-  pub clash : read ≡ a-clash place
+  pub clash : read ≡ a_clash place
 
 -- one answer or more, a and rs, laid over each other
 pub record Overlays : Type 0 where
   -- "Identical answers do."
-  pub identical : (a : List ℕ) (rs : List (List ℕ)) → Codable a → AllAre a rs → reading (on_coil (a ∷ rs)) ≡ an-answer a
+  pub identical : (a : List ℕ) (rs : List (List ℕ)) → Codable a → AllAre a rs → reading (on_coil (a ∷ rs)) ≡ an_answer a
   -- of one length, and not all identical
   pub different : (n : ℕ) (a : List ℕ) (rs : List (List ℕ)) → Answers (a ∷ rs) → OfLength n (a ∷ rs) → (AllAre a rs → ⊥)
       → FirstUnlike n a rs (reading (on_coil (a ∷ rs)))
@@ -55,7 +55,7 @@ pub record Overlays : Type 0 where
   pub two : (a b : List ℕ) → Codable a → Codable b → length a ≡ length b → (a ≡ b → ⊥)
       → FirstUnlike (length a) a (b ∷ []) (reading (overlay (answer_track a) (answer_track b)))
   -- nor do others, whatever their lengths: it is a clash, be it with the end of a shorter one
-  pub any_lengths : (a : List ℕ) (rs : List (List ℕ)) → Answers (a ∷ rs) → (AllAre a rs → ⊥) → (k : ℕ) × (reading (on_coil (a ∷ rs)) ≡ a-clash k)
+  pub any_lengths : (a : List ℕ) (rs : List (List ℕ)) → Answers (a ∷ rs) → (AllAre a rs → ⊥) → (k : ℕ) × (reading (on_coil (a ∷ rs)) ≡ a_clash k)
   -- the end stands nowhere but last: the first byte B8 ends a track, whatever lies over whatever
   pub end_alone : (a : List ℕ) (rs : List (List ℕ)) → Answers (a ∷ rs) → (j : ℕ) → suc j < length (on_coil (a ∷ rs))
       → get_or (on_coil (a ∷ rs)) j 0 ≡ end → ⊥

@@ -23,7 +23,7 @@ use Rattle.field.proofs.Called.{called, slot_of, slot_heard, Starts}
 use Rattle.field.proofs.InTime.{AtSlot, Follows, Both, none, more, Before}
 use Rattle.field.proofs.InStep.{slot_follows, self_follows}
 use Rattle.field.proofs.Callers.{called_callers, callers_fit, callers_judged, callers, messages}
-use Rattle.field.proofs.RowHeard.{row_at, row-replies, both_map}
+use Rattle.field.proofs.RowHeard.{row_at, row_replies, both_map}
 use Rattle.field.proofs.RowAsked.{walk_asked, row_hears}
 use Rattle.field.proofs.WalkServed.{room_left, ended_asked, nothing_reached}
 
@@ -59,7 +59,7 @@ module _ (air : List (List ℕ) → Arrival) (us : List ℕ) where
       let hears = row_hears w tags₀ ts room obey within level running before in
       let asked = walk_asked w room accepted fits in
       record {
-        heard = rw (asked, row-replies w.family w (sent w) (room_after w (sent w) room) tags₀ ts hears) (brings w refl refl within);
+        heard = rw (asked, row_replies w.family w (sent w) (room_after w (sent w) room) tags₀ ts hears) (brings w refl refl within);
         room = rw asked (room_left w (sent w) room level fits);
         tags = rw asked (row_at w.family w (sent w) (room_after w (sent w) room) tags₀ ts obey hears);
       }

@@ -48,14 +48,14 @@ module _ (family : ℕ) (w : Walk) (send : Send) (sent : List ℕ) where
       let told : (stepped family w t₀ found).told ≡ 0 = stepped_told family w t₀ found ∙ ap (λ (b : Bool). cond b 12 0) e in
       rw (told, same)
 
-  pub row-replies : (ts₀ ts : List Tag) → Both Hears ts₀ ts → replies send sent ts ≡ messages (callers family w ts₀)
+  pub row_replies : (ts₀ ts : List Tag) → Both Hears ts₀ ts → replies send sent ts ≡ messages (callers family w ts₀)
   unfolding replies callers messages
-  row-replies [] [] none = refl
-  row-replies (t₀ ∷ ts₀) (t ∷ ts) (more h hs) =
+  row_replies [] [] none = refl
+  row_replies (t₀ ∷ ts₀) (t ∷ ts) (more h hs) =
       rw h.after
-      (said t₀ t.room (replies send sent ts) (callers family w ts₀) (calls family w t₀.card) refl (row-replies ts₀ ts hs))
-  row-replies [] (t ∷ ts) b = elim b [ ]
-  row-replies (t₀ ∷ ts₀) [] b = elim b [ ]
+      (said t₀ t.room (replies send sent ts) (callers family w ts₀) (calls family w t₀.card) refl (row_replies ts₀ ts hs))
+  row_replies [] (t ∷ ts) b = elim b [ ]
+  row_replies (t₀ ∷ ts₀) [] b = elim b [ ]
 
 -- a law for each tag is one for the row
 pub both_map : {P Q : Tag → Tag → Type 0} (ts₀ ts : List Tag) → AllObey ts₀ → ((t₀ t : Tag) → Obeys t₀ → P t₀ t → Q t₀ t) → Both P ts₀ ts

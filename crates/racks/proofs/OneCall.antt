@@ -18,7 +18,7 @@ use Rattle.walk.specs.Record.{levels_of, most_rounds, full, is_running, remade, 
 use Rattle.walk.specs.Hear.{judged, ends_at_once, noted, list_noted, turned, passed, walk_after, list_after}
 use Rattle.walk.specs.Shared.{rows_with, lowest_free, most_rows, hear_refusal, has_row, owners_after, shared_hearing}
 use Rattle.racks.specs.Calls.{OneList}
-use Rattle.racks.specs.OneCall.{NoRow, has-40, none_free, FullExactlyAlways, Takes, Stays, TheRowAlways, StartFrees}
+use Rattle.racks.specs.OneCall.{NoRow, has_40, none_free, FullExactlyAlways, Takes, Stays, TheRowAlways, StartFrees}
 use Rattle.walk.proofs.Owners.{lowest_free_lowest, length_freed, freed_below, freed_past}
 use Rattle.walk.proofs.SharedWays.{start_served_of, shared_started, SharedServed, shared_served_of, shared_heard, shared_refused}
 use Rattle.racks.proofs.Changed.{fits_length, clash_leaves, row_open, own_most}
@@ -68,11 +68,11 @@ row_missing rack l most e = go (ltb (rows_with rack l.owners) 40) (ltb 0 (rows_w
     go : (a b : Bool) → ltb (rows_with rack l.owners) 40 ≡ a → ltb 0 (rows_with 255 l.owners) ≡ b → (a && b) ≡ false → NoRow rack l
     go true true p q f = absurd (false≢true (sym f))
     go true false p q f = none_free (sym (rows_counted 255 l.owners) ∙ omega (arith, ltb-false 0 (rows_with 255 l.owners) q))
-    go false b p q f = has-40 (sym (rows_counted rack l.owners) ∙ omega (arith, most, ltb-false (rows_with rack l.owners) 40 p))
+    go false b p q f = has_40 (sym (rows_counted rack l.owners) ∙ omega (arith, most, ltb-false (rows_with rack l.owners) 40 p))
 
 row_lacking : (rack : ℕ) (l : OneList) → NoRow rack l → has_row rack l.owners ≡ false
 unfolding has_row most_rows
-row_lacking rack l (has-40 e) = rw (rows_counted rack l.owners, e)
+row_lacking rack l (has_40 e) = rw (rows_counted rack l.owners, e)
 row_lacking rack l (none_free e) = go (ltb (rows_with rack l.owners) 40)
   where
     go : (b : Bool) → (b && ltb 0 (rows_with 255 l.owners)) ≡ false

@@ -13,7 +13,7 @@ use Rattle.racks.specs.Calls.{OneList, Shareable, owned, free_rows, rows_of, Cal
 
 -- "that rack has 40 or no row is free"
 pub data NoRow (rack : ℕ) (l : OneList) : Type 0 where
-  has-40 : owned rack l ≡ 40 → NoRow rack l
+  has_40 : owned rack l ≡ 40 → NoRow rack l
   none_free : free_rows l ≡ 0 → NoRow rack l
 
 -- "full comes exactly when a clean UID arrives and that rack has 40 or no row is free": of a hearing that is served. So freed rows "are used again before

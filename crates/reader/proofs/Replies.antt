@@ -20,7 +20,7 @@ use Rattle.reader.specs.Reading.{reads_blocks, block_bytes, lock_bytes, earned, 
 use Rattle.reader.specs.Shown.{moves_blocks, is_outside, reading_held, bytes_held, marks_held}
 use Rattle.reader.proofs.Asked.{reply_to}
 use Rattle.reader.proofs.AnswerRead.{part_read, code_read}
-use Rattle.reader.proofs.ReplyParts.{Kind, One, Several, System, Locks, Plain, kind, Tells, tells-plain, tells}
+use Rattle.reader.proofs.ReplyParts.{Kind, One, Several, System, Locks, Plain, kind, Tells, tells_plain, tells}
 
 module _ (c : Card) (memory locks : List ℕ) (q : Request) (is : is_request q ≡ true) (same : moves_blocks q ≡ true → q.size ≡ c.size)
     (stored : length memory ≡ c.blocks * c.size) (marks : length locks ≡ c.blocks) (some : 1 ≤ c.blocks) (sized : 1 ≤ c.size)
@@ -68,5 +68,5 @@ module _ (c : Card) (memory locks : List ℕ) (q : Request) (is : is_request q �
       go (System e) = let more : reply_to q ≡ Information = rw e refl in cc (done, more)
       go (Locks e) = let more : reply_to q ≡ Status q.first (q.n + 1) = rw e refl in cc (done, more)
       go (Plain a b d e) =
-          let t : Tells c memory locks q [] = tells-plain c memory locks q a b d e in
+          let t : Tells c memory locks q [] = tells_plain c memory locks q a b d e in
           part_read q is found found' room room' [] t.long t.all ∙ shown_plain a b d e

@@ -54,9 +54,9 @@ module _ (c : Card) (memory locks : List ℕ) (q : Request) where
     pub blocks : block_bytes_in q part ≡ bytes_held memory q
     pub marked : lock_bytes_in q part ≡ marks_held locks q
 
-  pub tells-plain : eqb q.command 0x20 ≡ false → eqb q.command 0x23 ≡ false → eqb q.command 0x2b ≡ false → eqb q.command 0x2c ≡ false → Tells []
+  pub tells_plain : eqb q.command 0x20 ≡ false → eqb q.command 0x23 ≡ false → eqb q.command 0x2b ≡ false → eqb q.command 0x2c ≡ false → Tells []
   unfolding reply_to reply_bytes earned reads_blocks reading_in reading_held block_bytes_in bytes_held lock_bytes_in marks_held
-  tells-plain a b d e =
+  tells_plain a b d e =
       record {
         reply = rw (a, b, d, e) refl;
         long = rw (a, b, e, d) refl;
@@ -66,9 +66,9 @@ module _ (c : Card) (memory locks : List ℕ) (q : Request) where
         marked = rw (a, b, e) refl;
       }
 
-  tells-system : 1 ≤ c.blocks → 1 ≤ c.size → c.uid < 2 ^ 64 → q.command ≡ 0x2b → Tells (information c)
+  tells_system : 1 ≤ c.blocks → 1 ≤ c.size → c.uid < 2 ^ 64 → q.command ≡ 0x2b → Tells (information c)
   unfolding reply_to reply_bytes earned reads_blocks reading_in reading_held block_bytes_in bytes_held lock_bytes_in marks_held information information_in information_held field_bytes field_at
-  tells-system some sized wide e =
+  tells_system some sized wide e =
       let blocks : c.blocks - 1 + 1 ≡ c.blocks = omega arith in
       let size : c.size - 1 + 1 ≡ c.size = omega arith in
       record {
@@ -89,8 +89,8 @@ module _ (c : Card) (memory locks : List ℕ) (q : Request) where
       let within : leb c.blocks q.first ≡ false = rw e at outside in
       omega (arith, leb-false c.blocks q.first within)
 
-  several-inside : leb c.blocks (q.first + q.n) ≡ false → q.first + (q.n + 1) ≤ c.blocks
-  several-inside within = omega (arith, leb-false c.blocks (q.first + q.n) within)
+  several_inside : leb c.blocks (q.first + q.n) ≡ false → q.first + (q.n + 1) ≤ c.blocks
+  several_inside within = omega (arith, leb-false c.blocks (q.first + q.n) within)
 
   module _ (same : moves_blocks q ≡ true → q.size ≡ c.size) (stored : length memory ≡ c.blocks * c.size) (marks : length locks ≡ c.blocks)
       (outside : is_outside c q ≡ false) where
@@ -98,9 +98,9 @@ module _ (c : Card) (memory locks : List ℕ) (q : Request) where
     inside : (n : ℕ) → q.first + n ≤ c.blocks → (q.first + n) * c.size ≤ length memory
     inside n h = omega (arith, mul-le-mul_right c.size h)
 
-    tells-one : q.command ≡ 0x20 → Tells (blocks_read memory locks c.size option q.first 1)
+    tells_one : q.command ≡ 0x20 → Tells (blocks_read memory locks c.size option q.first 1)
     unfolding moves_blocks reply_to reply_bytes earned reads_blocks count lead_of reading_in reading_held block_bytes block_bytes_in bytes_held lock_bytes_in marks_held blocks_held locks_held has_option
-    tells-one e =
+    tells_one e =
         let h : q.first + 1 ≤ c.blocks = one_inside outside e in
         let size : q.size ≡ c.size = same (rw e refl) in
         record {
@@ -112,11 +112,11 @@ module _ (c : Card) (memory locks : List ℕ) (q : Request) where
           marked = rw (e, size) (leads_of_card memory locks c.size option q.first 1 (inside 1 h) (omega arith));
         }
 
-    tells-several : q.command ≡ 0x23 → Tells (blocks_read memory locks c.size option q.first (q.n + 1))
+    tells_several : q.command ≡ 0x23 → Tells (blocks_read memory locks c.size option q.first (q.n + 1))
     unfolding moves_blocks is_outside reply_to reply_bytes earned reads_blocks count lead_of reading_in reading_held block_bytes block_bytes_in bytes_held lock_bytes_in marks_held blocks_held locks_held has_option
-    tells-several e =
+    tells_several e =
         let n : ℕ = q.n + 1 in
-        let h : q.first + n ≤ c.blocks = several-inside (rw e at outside) in
+        let h : q.first + n ≤ c.blocks = several_inside (rw e at outside) in
         let size : q.size ≡ c.size = same (rw e refl) in
         record {
           reply = rw e refl;
@@ -127,10 +127,10 @@ module _ (c : Card) (memory locks : List ℕ) (q : Request) where
           marked = rw (e, size, or-false) (leads_of_card memory locks c.size option q.first n (inside n h) (omega arith));
         }
 
-    tells-locks : q.command ≡ 0x2c → Tells (locks_read locks q.first (q.n + 1))
+    tells_locks_lem : q.command ≡ 0x2c → Tells (locks_read locks q.first (q.n + 1))
     unfolding is_outside reply_to reply_bytes earned reads_blocks count reading_in reading_held lock_bytes block_bytes_in bytes_held lock_bytes_in marks_held locks_read locks_held
-    tells-locks e =
-        let h : q.first + (q.n + 1) ≤ c.blocks = several-inside (rw e at outside) in
+    tells_locks_lem e =
+        let h : q.first + (q.n + 1) ≤ c.blocks = several_inside (rw e at outside) in
         record {
           reply = rw e refl;
           long = rw (e, length-take-le (q.n + 1) (drop q.first locks) (rw length-drop (omega arith))) (omega arith);
@@ -144,8 +144,8 @@ module _ (c : Card) (memory locks : List ℕ) (q : Request) where
     tells some sized wide = go (kind q.command)
       where
         go : Kind q.command → (part : List ℕ) × Tells part
-        go (One e) = (_, tells-one e)
-        go (Several e) = (_, tells-several e)
-        go (System e) = (_, tells-system some sized wide e)
-        go (Locks e) = (_, tells-locks e)
-        go (Plain a b d e) = (_, tells-plain a b d e)
+        go (One e) = (_, tells_one e)
+        go (Several e) = (_, tells_several e)
+        go (System e) = (_, tells_system some sized wide e)
+        go (Locks e) = (_, tells_locks_lem e)
+        go (Plain a b d e) = (_, tells_plain a b d e)

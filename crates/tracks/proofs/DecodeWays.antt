@@ -11,7 +11,7 @@ use lib.ListN.{length, get_or}
 use Rattle.lent.specs.Lent.{over, refused}
 use Rattle.frames.specs.Frame.{longest}
 use Rattle.tracks.specs.Track.{end, slot_mark}
-use Rattle.tracks.specs.Decoder.{IsTrackOf, told, Decodes, no_room, a-frame, a-mark, no-track}
+use Rattle.tracks.specs.Decoder.{IsTrackOf, told, Decodes, no_room, a_frame, a_mark, no_track}
 use Rattle.tracks.specs.Steps.{count_of, is_track, is_slot_mark}
 use Rattle.tracks.proofs.Parts.{parts_of_track}
 use Rattle.tracks.proofs.RoundTrip.{frame_of, track_of_frame, coded_of_track, frame_bytes, length_frame_of}
@@ -41,7 +41,7 @@ module _ (t found : List ℕ) where
 
   module _ (room : longest ≤ length found) where
     pub decodes_mark : is_slot_mark t ≡ true → Decodes t found (told 2 0) found
-    decodes_mark h = a-mark room (mark_of t h) refl refl
+    decodes_mark h = a_mark room (mark_of t h) refl refl
 
     pub decodes_frame : (coding : ℕ) → coding < 2 → is_track coding t ≡ true → Decodes t found (told coding (count_of coding t)) (over (frame_of coding t) found)
     decodes_frame coding c h =
@@ -54,7 +54,7 @@ module _ (t found : List ℕ) where
           track = coded_of_track coding t h;
         }
         in
-        a-frame room coding (frame_of coding t) frame (rw n) refl
+        a_frame room coding (frame_of coding t) frame (rw n) refl
 
     module _ (no-mark : is_slot_mark t ≡ false) (not-of-4 : is_track 0 t ≡ false) (not-of-256 : is_track 1 t ≡ false) where
       no_frame : (coding : ℕ) (frame : List ℕ) → IsTrackOf coding frame t → ⊥
@@ -63,4 +63,4 @@ module _ (t found : List ℕ) where
       no_frame (suc (suc coding)) frame is = omega (arith, is.known)
 
       pub decodes_no_track : Decodes t found (refused 9) found
-      decodes_no_track = no-track room no_frame (λ e. false≢true (sym no-mark ∙ rw e mark_is)) refl refl
+      decodes_no_track = no_track room no_frame (λ e. false≢true (sym no-mark ∙ rw e mark_is)) refl refl

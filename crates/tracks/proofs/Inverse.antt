@@ -14,7 +14,7 @@ use Rattle.lent.proofs.Over.{take_over}
 use Rattle.frames.specs.Frame.{longest}
 use Rattle.tracks.specs.Track.{track_of, track_length}
 use Rattle.tracks.specs.Coder.{Codes}
-use Rattle.tracks.specs.Decoder.{IsTrackOf, told, Decodes, a-frame}
+use Rattle.tracks.specs.Decoder.{IsTrackOf, told, Decodes, a_frame}
 use Rattle.tracks.specs.Steps.{is_track, is_slot_mark}
 use Rattle.tracks.proofs.Units.{length_track}
 use Rattle.tracks.proofs.CodeWays.{codes_too_long, codes_no_coding, codes_no_room, codes_served}
@@ -56,7 +56,7 @@ module _ {frame : List ℕ} {coding : ℕ} {room : List ℕ} {n : ℕ} {track : 
       → (r ≡ told coding (length frame)) × (left ≡ over frame found)
   decode_of_code bs most decode =
       let is : IsTrackOf coding frame (track_of coding frame) = record { known = known; bytes = bs; short = short; track = refl } in
-      decode_unique (rw track_of_code at decode) (a-frame most coding frame is refl refl)
+      decode_unique (rw track_of_code at decode) (a_frame most coding frame is refl refl)
 
 -- every row of bytes is answered
 pub decode_answers : (t found : List ℕ) → (r : ℤ) × (left : List ℕ) × Decodes t found r left

@@ -83,8 +83,8 @@ module _ (coding : ℕ) (t : List ℕ) where
     pub within : 1 + unit coding * k ≤ length t
     pub bytes : are_bytes coding k (drop 1 t) ≡ true
 
-  pub units-of-length : (k : ℕ) → k ≡ length_as coding t → k ≤ longest → Units k
-  units-of-length k e h =
+  pub units_of_length : (k : ℕ) → k ≡ length_as coding t → k ≤ longest → Units k
+  units_of_length k e h =
       let is : is_track coding t ≡ true = track_of_length (rw e at h) in
       let same : k ≡ count_of coding t = e ∙ length_of_track is in
       let parts : Parts coding t = parts_of_track is in

@@ -23,9 +23,9 @@ pub data Decodes (t found : List ℕ) (r : ℤ) (left : List ℕ) : Type 0 where
   -- 8: "room short: the track's length, 64 for decoding". It comes first: "decoder 8, 9. All change nothing."
   no_room : length found < longest → r ≡ refused 8 → left ≡ found → Decodes t found r left
   -- the frame, and the bytes past it as found
-  a-frame : longest ≤ length found → (coding : ℕ) (frame : List ℕ) → IsTrackOf coding frame t → r ≡ told coding (length frame) → left ≡ over frame found
+  a_frame : longest ≤ length found → (coding : ℕ) (frame : List ℕ) → IsTrackOf coding frame t → r ≡ told coding (length frame) → left ≡ over frame found
       → Decodes t found r left
-  a-mark : longest ≤ length found → t ≡ slot_mark → r ≡ told 2 0 → left ≡ found → Decodes t found r left
+  a_mark : longest ≤ length found → t ≡ slot_mark → r ≡ told 2 0 → left ≡ found → Decodes t found r left
   -- 9: "not a track"
-  no-track : longest ≤ length found → ((coding : ℕ) (frame : List ℕ) → IsTrackOf coding frame t → ⊥) → (t ≡ slot_mark → ⊥) → r ≡ refused 9 → left ≡ found
+  no_track : longest ≤ length found → ((coding : ℕ) (frame : List ℕ) → IsTrackOf coding frame t → ⊥) → (t ≡ slot_mark → ⊥) → r ≡ refused 9 → left ≡ found
       → Decodes t found r left

@@ -8,7 +8,7 @@ use native.Mathlib.Nat.{zero-add}
 use Rattle.frames.specs.Frame.{longest}
 use Rattle.tracks.proofs.DecodeWays.{decodes_no_room, decodes_mark, decodes_frame, decodes_no_track}
 use Rattle.tracks.proofs.RoundTrip.{frame_of}
-use Rattle.tracks.proofs.Parts.{units-of-length, no_track_of_length}
+use Rattle.tracks.proofs.Parts.{units_of_length, no_track_of_length}
 use Rattle.tracks.proofs.decoder.decode.Goals as goal
 
 pub returns-then-frame-lt-LONGEST : goal.returns-then-frame-lt-LONGEST
@@ -33,7 +33,7 @@ put_bytes-requires c =
     let args = c.args in
     let length-as = c.length_as-short in
     let third = c.if-short-le-LONGEST in
-    let units = units-of-length 0 args.track.now length-as.result length-as.ensures third.true in
+    let units = units_of_length 0 args.track.now length-as.result length-as.ensures third.true in
     record { n_in_bounds = units.within; track_value = units.bytes; n_in_bounds_2 = omega arith }
 
 pub returns-then-short-le-LONGEST : goal.returns-then-short-le-LONGEST
@@ -44,7 +44,7 @@ returns-then-short-le-LONGEST c =
     let args = c.args in
     let third = c.if-short-le-LONGEST in
     let first = c.if-frame-lt-LONGEST in
-    let units = units-of-length 0 args.track.now length-as.result length-as.ensures third.true in
+    let units = units_of_length 0 args.track.now length-as.result length-as.ensures third.true in
     rw (to_z_pos w64 length-as.result (omega arith), put-bytes.ensures, units.count)
     (rw zero-add at (decodes_frame args.track.now args.frame.now first.false 0 (omega arith) units.track))
 
@@ -54,7 +54,7 @@ put_bytes-requires-then-long-le-LONGEST c =
     let args = c.args in
     let length-as2 = c.length_as-long in
     let fourth = c.if-long-le-LONGEST in
-    let units = units-of-length 1 args.track.now length-as2.result length-as2.ensures fourth.true in
+    let units = units_of_length 1 args.track.now length-as2.result length-as2.ensures fourth.true in
     record { n_in_bounds = units.within; track_value = units.bytes; n_in_bounds_2 = omega arith }
 
 pub returns-then-long-le-LONGEST : goal.returns-then-long-le-LONGEST
@@ -65,7 +65,7 @@ returns-then-long-le-LONGEST c =
     let args = c.args in
     let fourth = c.if-long-le-LONGEST in
     let first = c.if-frame-lt-LONGEST in
-    let units = units-of-length 1 args.track.now length-as2.result length-as2.ensures fourth.true in
+    let units = units_of_length 1 args.track.now length-as2.result length-as2.ensures fourth.true in
     rw (to_z_pos w64 (65536 + length-as2.result) (omega arith), put-bytes2.ensures, units.count)
     (decodes_frame args.track.now args.frame.now first.false 1 (omega arith) units.track)
 
