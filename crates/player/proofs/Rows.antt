@@ -1,7 +1,7 @@
 -- Laws of rows that are put pair after pair: one pair more, and a row on a line of its own. By the list of bytes.
 -- Assumes nothing.
 use Rattle.std.proofs.Common.{◌≡◌, ℕ, suc, ◌+◌, ◌-◌, ◌<◌, List, [], ◌∷◌, ◌++◌, length, get_or, take, drop, sym, refl, ap, ◌∙◌, append_assoc, append-nil, add-one, arith, take_all, take-suc, ne_eqb}
-use Rattle.digits.specs.Digits.{digit, hex_digits}
+use Rattle.digits.specs.Digits.{hex_digits}
 use Rattle.digits.specs.Rows.{row_text}
 use Rattle.player.specs.Answer.{pairs_text, refused_text, silence_text, heard_text, answer_text}
 
