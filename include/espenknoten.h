@@ -26,7 +26,8 @@
  * served leaves the bytes past its result as it found them. The size of a
  * buffer that a result goes to is called room.
  *
- * The archive links into x86-64 programs only.
+ * The archive links into x86-64 programs only, for processors from x86-64-v2
+ * on.
  */
 #ifndef ESPENKNOTEN_H
 #define ESPENKNOTEN_H
