@@ -15,7 +15,7 @@ fn print(rt: &HostRuntime, input: &[u8]) {
 
 // What is read, to the printed end.
 fn run(rt: &HostRuntime, mut source: Source) {
-    // 4096 bytes, more than the 1701 that settle what is printed (printed-of-start, crates/report/proofs/Start.antt)
+    // 4096 bytes, more than the 1701 that settle what is printed (printed_of_start, crates/report/proofs/Start.antt)
     let mut room = io::buffer();
     let came = input::fill(rt, &mut source, b"espenknoten-bench: input", &mut room);
     if came.failed {

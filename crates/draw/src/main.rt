@@ -15,7 +15,7 @@ fn draw(rt: &HostRuntime, input: &[u8]) {
 
 // What is read, to the printed end.
 fn run(rt: &HostRuntime, mut source: Source) {
-    // 4096 bytes, more than the 1701 that settle what is drawn and printed (pictured-of-start, crates/picture/proofs/Start.antt)
+    // 4096 bytes, more than the 1701 that settle what is drawn and printed (pictured_of_start, crates/picture/proofs/Start.antt)
     let mut room = io::buffer();
     let came = input::fill(rt, &mut source, b"espenknoten-draw: input", &mut room);
     if came.failed {

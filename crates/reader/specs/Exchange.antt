@@ -42,7 +42,7 @@ pub record Exchange (q : Request) (written : List ℕ) (c : Card) (memory locks 
   -- its answer is read
   pub read : is_called c q ≡ true → is_held q ≡ false → ReadAs q (take r.length answer) (code_of c locks q) r.card memoryLeft locksLeft
   -- and so is one that was held: whatever the card's promise allows for a slot mark, with any room that it accepts (numbers 1 to 3 always do:
-  -- `served-after-a-frame` on the front page). It is not silent
+  -- `served_after_a_frame` on the front page). It is not silent
   pub held : is_called c q ≡ true → is_held q ≡ true → (found : List ℕ) → Accepted r.card memoryLeft locksLeft found
       → (s : Served) (memoryMarked locksMarked released : List ℕ) → Leaves (mark_event r.card memoryLeft locksLeft found) s memoryMarked locksMarked released
       → (eqb s.length 0 ≡ false) × ReadAs q (take s.length released) (code_of c locks q) r.card memoryLeft locksLeft

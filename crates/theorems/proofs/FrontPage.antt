@@ -685,8 +685,8 @@ the_start_is_drawn : (k : ℕ) (input : List ℕ) → 1701 ≤ k → pictured (t
 the_start_is_drawn = pictured_of_start
 
 -- The field of three, drawn.
-three_drawn_lem : ThreeDrawn
-three_drawn_lem = picture_of_three
+three_drawn : ThreeDrawn
+three_drawn = picture_of_three
 
 -- ---- Text
 

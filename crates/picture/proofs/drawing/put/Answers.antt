@@ -1,4 +1,4 @@
--- `picture::drawing::put` meets its contract: by the promise of hex's `put_bytes` where there is room. Assumes nothing.
+-- `picture::drawing::put` meets its contract: by the promise of digits' `put_bytes` where there is room. Assumes nothing.
 use native.Mathlib.Omega.{arith}
 use Rattle.digits.proofs.Put.{put_cast, put_at}
 use Rattle.picture.proofs.drawing.put.Goals as goal

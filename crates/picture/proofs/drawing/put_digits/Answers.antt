@@ -1,4 +1,4 @@
--- `picture::drawing::put_digits` meets its contract: by the promise of hex's `put_digits` where there is room. Assumes nothing.
+-- `picture::drawing::put_digits` meets its contract: by the promise of digits' `put_digits` where there is room. Assumes nothing.
 use native.Mathlib.Omega.{arith}
 use Rattle.digits.proofs.Digits.{length_hex_digits}
 use Rattle.digits.proofs.Put.{put_cast, put_at}

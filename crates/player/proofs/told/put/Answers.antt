@@ -1,4 +1,4 @@
--- `player::told::put` meets its contract: as many bytes as there is room for, by the promise of hex's `put_bytes` (Adding.antt). Assumes nothing.
+-- `player::told::put` meets its contract: as many bytes as there is room for, by the promise of digits' `put_bytes` (Adding.antt). Assumes nothing.
 use Rattle.std.proofs.Common.{sym, arith, length-take-le}
 use Rattle.player.proofs.Adding.{adds_put}
 use Rattle.player.proofs.told.put.Goals as goal

@@ -1,4 +1,4 @@
--- `report::output::put` meets its contract: by the promise of hex's `put_bytes` where there is room. Assumes nothing.
+-- `report::output::put` meets its contract: by the promise of digits' `put_bytes` where there is room. Assumes nothing.
 use native.Mathlib.Omega.{arith}
 use Rattle.digits.proofs.Put.{put_cast, put_at}
 use Rattle.report.proofs.output.put.Goals as goal

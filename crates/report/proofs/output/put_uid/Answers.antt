@@ -1,4 +1,4 @@
--- `report::output::put_uid` meets its contract: by the promise of hex's `put_digits` where there is room. Assumes nothing.
+-- `report::output::put_uid` meets its contract: by the promise of digits' `put_digits` where there is room. Assumes nothing.
 use native.Mathlib.Omega.{arith}
 use Rattle.digits.proofs.Digits.{length_hex_digits}
 use Rattle.digits.proofs.Put.{put_cast, put_at}
