@@ -12,8 +12,8 @@ use lib.Seq.{get_or-take, get_or-drop, take-nil, drop-drop, length-take-le}
 use Rattle.tracks.specs.Steps.{pair_of, joined, zeros, lone, byte_of}
 
 -- a byte of the m bytes at a place
-get_d_part : (t : List ℕ) (at m k : ℕ) → k < m → get_or (take m (drop at t)) k 0 ≡ get_or t (at + k) 0
-get_d_part t at m k h = get_or-take m (drop at t) k 0 h ∙ get_or-drop at t k 0
+get_or_part : (t : List ℕ) (at m k : ℕ) → k < m → get_or (take m (drop at t)) k 0 ≡ get_or t (at + k) 0
+get_or_part t at m k h = get_or-take m (drop at t) k 0 h ∙ get_or-drop at t k 0
 
 drop_take : (n m : ℕ) (l : List ℕ) → drop n (take m l) ≡ take (m - n) (drop n l)
 drop_take zero m l = rw sub-zero
@@ -25,7 +25,7 @@ pub quad_byte : (t : List ℕ) (at : ℕ)
     → byte_of 0 (take 4 (drop at t)) ≡ joined (pair_of (get_or t at 0)) (pair_of (get_or t (at + 1) 0)) (pair_of (get_or t (at + 2) 0)) (pair_of (get_or t (at + 3) 0))
 unfolding byte_of
 quad_byte t at =
-    rw (get_d_part t at 4 0 (omega arith), add-zero, get_d_part t at 4 1 (omega arith), get_d_part t at 4 2 (omega arith), get_d_part t at 4 3 (omega arith))
+    rw (get_or_part t at 4 0 (omega arith), add-zero, get_or_part t at 4 1 (omega arith), get_or_part t at 4 2 (omega arith), get_or_part t at 4 3 (omega arith))
 
 module _ (t : List ℕ) (at : ℕ) (inside : at + 64 ≤ length t) where
   length_part : length (take 64 (drop at t)) ≡ 64
@@ -52,7 +52,7 @@ module _ (t : List ℕ) (at : ℕ) (inside : at + 64 ≤ length t) where
         let left : length (take (63 - place) (drop (at + place + 1) t)) ≡ 63 - place =
         length-take-le (63 - place) (drop (at + place + 1) t) (rw length-drop (omega arith))
         in
-        rw (← first, get_d_part t at 64 place found, rest, left)
+        rw (← first, get_or_part t at 64 place found, rest, left)
 
 -- by the coding
 pub byte_of_4 : (coding : ℕ) (u : List ℕ) → coding ≡ 0 → byte_of coding u ≡ byte_of 0 u
