@@ -4,9 +4,9 @@ mod Ways
 pub mod CardCalls
 pub mod ReadBack
 pub mod Unique
+mod Lengths
 mod Numbers
 mod WalkTold
-mod SharedTold
 pub mod UniqueWalked
 pub mod UniqueAnswers
 pub mod ErrorShown

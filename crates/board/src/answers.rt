@@ -1,9 +1,10 @@
 // The reader from C: a request by value, and what its answer says, by value too.
-ghost use Rattle.std.specs.Prelude.{◌≡◌};
+ghost use Rattle.std.specs.Prelude.{◌≡◌, Some};
 ghost use Rattle.reader.specs.Request.{Makes};
 ghost use Rattle.reader.specs.Reading.{reading};
 ghost use Rattle.board.specs.Answers.{kind_of, value_of, no_information, information_of, read_answer, ReadsByValue};
 
+use crate::back;
 use crate::in_place::minus;
 use reader::{Information, Reading, Request};
 
@@ -15,32 +16,22 @@ pub struct Shown {
     pub information: Information,
 }
 
-fn kind_of(reading: Reading) -> u32
-    ensures { result ≡ kind_of reading }
+// The kind of a reading, and its value.
+#[tactic(auto, unfolding(crate::specs::Answers::kind_of, crate::specs::Answers::value_of))]
+fn kind_and_value(reading: Reading) -> (u32, u32)
+    ensures kind { result.0 ≡ kind_of (Some reading) }
+    ensures value { result.1 ≡ value_of (Some reading) }
 {
     match reading {
-        Reading::Nothing => 0,
-        Reading::Done => 1,
-        Reading::Blocks(_) => 2,
-        Reading::Locks(_) => 3,
-        Reading::System(_) => 4,
-        Reading::Error(_) => 5,
+        Reading::Done => (1, 0),
+        Reading::Blocks(n) => (2, n),
+        Reading::Locks(n) => (3, n),
+        Reading::System(_) => (4, 0),
+        Reading::Error(code) => (5, u32::from(code)),
     }
 }
 
-fn value_of(reading: Reading) -> u32
-    ensures { result ≡ value_of reading }
-{
-    match reading {
-        Reading::Nothing => 0,
-        Reading::Done => 0,
-        Reading::Blocks(n) => n,
-        Reading::Locks(n) => n,
-        Reading::System(_) => 0,
-        Reading::Error(code) => code as u32,
-    }
-}
-
+#[tactic(auto, unfolding(crate::specs::Answers::no_information))]
 fn no_information() -> Information
     ensures { result ≡ no_information }
 {
@@ -55,44 +46,42 @@ fn no_information() -> Information
     }
 }
 
+#[tactic(auto, unfolding(crate::specs::Answers::information_of))]
 fn information_of(reading: Reading) -> Information
-    ensures { result ≡ information_of reading }
+    ensures { result ≡ information_of (Some reading) }
 {
     match reading {
-        Reading::Nothing => no_information(),
-        Reading::Done => no_information(),
-        Reading::Blocks(_) => no_information(),
-        Reading::Locks(_) => no_information(),
         Reading::System(information) => information,
-        Reading::Error(_) => no_information(),
+        _ => no_information(),
     }
 }
 
-fn back_of(number: u8, reading: Reading) -> i64
-    ensures { result ≡ read_answer number reading }
+// Both in one number.
+#[tactic(auto, unfolding(crate::specs::Answers::read_answer))]
+fn packed(reading: Reading) -> i64
+    ensures { result ≡ read_answer 0 (Some reading) }
 {
-    if number != 0 {
-        return minus(number);
-    }
-    let kind = kind_of(reading) as u64;
-    let value = value_of(reading) as u64;
-    (65536 * kind + value) as i64
+    let (kind, value) = kind_and_value(reading);
+    65536 * i64::from(kind) + i64::from(value)
 }
 
 pub fn ek_make(request: Request, written: &[u8], frame: &mut [u8]) -> i64
     ensures { Makes request written.now frame.old result frame.new }
 {
-    request.make(written, frame)
+    back(request.make(written, frame))
 }
 
 pub fn ek_read(request: Request, answer: &[u8], blocks: &mut [u8], locks: &mut [u8]) -> Shown
     ensures { ReadsByValue (reading request answer.now blocks.old locks.old) result blocks.new locks.new }
 {
-    let told = request.read(answer, blocks, locks);
-    let number = told.number;
-    let reading = told.reading;
-    Shown {
-        answer: back_of(number, reading),
-        information: information_of(reading),
+    match request.read(answer, blocks, locks) {
+        Ok(reading) => Shown {
+            answer: packed(reading),
+            information: information_of(reading),
+        },
+        Err(refusal) => Shown {
+            answer: minus(refusal),
+            information: no_information(),
+        },
     }
 }

@@ -1,4 +1,3 @@
-pub mod Places
 pub mod Changes
 pub mod Accepted
 pub mod Heard

@@ -1,6 +1,9 @@
 // The card's record and what needs no memory: what an inventory request, a slot mark and power off make of a card.
 #![tactic(auto)]
 
+ghost use Rattle.std.specs.Prelude.{◌≡◌};
+ghost use Rattle.card.specs.Inventory.{still};
+
 mod frame;
 mod inventory;
 mod mark;
@@ -61,4 +64,16 @@ pub enum Reply {
 pub struct Turn {
     pub card: Card,
     pub reply: Reply,
+}
+
+impl Turn {
+    // No answer.
+    fn still(card: Card) -> Turn
+        ensures { result ≡ still card }
+    {
+        Turn {
+            card,
+            reply: Reply::Silence,
+        }
+    }
 }

@@ -6,42 +6,31 @@ use crate::inventory::present_if;
 use crate::{Card, Held, Reply, Sequence, Turn};
 use slots::fits_slot;
 
-fn moving(card: Card, sequence: Sequence) -> Turn
-    ensures { result ≡ moved card sequence }
-{
-    match sequence {
-        Sequence::Idle => Turn {
-            card: card,
-            reply: Reply::Silence,
-        },
-        Sequence::Running(slot, n, mask) => {
-            if slot < 15 {
+impl Card {
+    #[tactic(auto, unfolding(crate::specs::Mark::moved))]
+    fn moving(self) -> Turn
+        ensures { result ≡ moved self self.sequence }
+    {
+        match self.sequence {
+            Sequence::Running(slot, n, mask) if slot < 15 => {
                 let next = slot + 1;
                 Turn {
-                    card: card.in_sequence(Sequence::Running(next, n, mask)),
-                    reply: present_if(fits_slot(card.uid, n, mask, next)),
-                }
-            } else {
-                Turn {
-                    card: card.in_sequence(Sequence::Idle),
-                    reply: Reply::Silence,
+                    card: self.in_sequence(Sequence::Running(next, n, mask)),
+                    reply: present_if(fits_slot(self.uid, n, mask, next)),
                 }
             }
+            Sequence::Running(_, _, _) => Turn::still(self.in_sequence(Sequence::Idle)),
+            Sequence::Idle => Turn::still(self),
         }
     }
-}
 
-impl Card {
     // What a slot mark makes of the record, and what is answered.
+    #[tactic(auto, unfolding(crate::specs::Mark::marked, crate::specs::Mark::released))]
     pub fn hear_mark(self) -> Turn
         ensures { result ≡ marked self }
     {
-        let held = self.held;
-        match held {
-            Held::Free => {
-                let sequence = self.sequence;
-                moving(self, sequence)
-            }
+        match self.held {
+            Held::Free => self.moving(),
             Held::Success => Turn {
                 card: self.holding(Held::Free),
                 reply: Reply::Done,

@@ -7,6 +7,9 @@ use native.Mathlib.Decide.{dec_le}
 use mathlib.Core.List.{List}
 use lib.IntN.{ℤ, pos, nat_abs, pos-ne-negsuc}
 use lib.ListN.{length, take}
+use Rattle.std.specs.Prelude.{Result, Ok, Err, IfOk}
+use Rattle.refusals.specs.declared.Refusal.{Refusal}
+use Rattle.refusals.specs.Number.{number_back}
 use Rattle.lent.specs.Bytes.{Bytes}
 use Rattle.lent.specs.Lent.{over}
 use Rattle.lent.proofs.Over.{take_over}
@@ -50,11 +53,13 @@ module _ {answer room : List ℕ} {n : ℕ} {track : List ℕ} (code : CodesAnsw
       go (yes h) = h
       go (no h) = absurd (pos-ne-negsuc n 7 (coil_code_unique code (codes_no_room answer room least most (omega arith))).0)
 
+  size : n ≡ answer_track_length (length answer)
+  size = ap nat_abs (coil_code_unique code (codes_served answer room least most wide)).0
+
   -- its first bytes, as many as it answers, are the track
   pub coded_track : take n track ≡ answer_track answer
   coded_track =
       let served = coil_code_unique code (codes_served answer room least most wide) in
-      let size : n ≡ answer_track_length (length answer) = ap nat_abs served.0 in
       rw (served.1, size, ← (length_track answer)) (take_over (answer_track answer) room)
 
   -- decoding them gives the answer back
@@ -63,3 +68,9 @@ module _ {answer room : List ℕ} {n : ℕ} {track : List ℕ} (code : CodesAnsw
   answer_of_code {found} bytes wide_enough decode =
       let is : Codable answer = record { bytes = bytes; least = least; most = most } in
       (what_is_told (answer_track answer) found _ _ wide_enough (rw coded_track at decode)).of_answer answer (reading_of_track answer is)
+
+-- the longest track is that of 8,451 bytes
+pub answer_code_most : {answer room track : List ℕ} (r : Result ℕ Refusal) → CodesAnswer answer room (number_back r) track → IfOk r (λ n. n ≤ 16904)
+unfolding number_back longest_answer
+answer_code_most (Ok n) code = omega (arith, size code, most code)
+answer_code_most (Err refusal) code = tt

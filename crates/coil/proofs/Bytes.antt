@@ -4,11 +4,14 @@ use Prim.Native.Nat.{ℕ, zero, suc, ◌+◌, ◌-◌, ◌*◌, ◌/◌, ◌%◌
 use native.Mathlib.Nat.{add-zero, zero-add, suc-add, div-one}
 use native.Mathlib.Decide.{ℕ_discrete}
 use native.Mathlib.Omega.{arith}
-use mathlib.Core.List.{List, [], ◌∷◌, ◌++◌}
-use lib.ListN.{length, get_or, set}
-use lib.Seq.{get_or-set_same, get_or-set_other}
-use Rattle.lent.specs.Lent.{placed}
-use Rattle.lent.proofs.Over.{set_placed, placed_placed}
+use mathlib.Core.List.{List, [], ◌∷◌, ◌++◌, append-nil, append_assoc}
+use borrow.Rule.Slice.PartMut.{put_mid}
+use lib.ListN.{length, get_or, set, drop_of_length-le}
+use lib.Seq.{get_or-set_same, get_or-set_other, drop-drop}
+use Rattle.std.specs.List.{between}
+use Rattle.std.proofs.lemmas.List.Edits.{length-between}
+use Rattle.lent.specs.Lent.{placed, over}
+use Rattle.lent.proofs.Over.{set_placed, placed_placed, placed_start}
 use Rattle.coil.specs.Decoder.{bit_at, byte_at, bytes_from}
 use Rattle.coil.specs.Steps.{four_bits}
 use Rattle.coil.proofs.Flaws.{pair_in_lem}
@@ -74,18 +77,34 @@ placed_bytes_more t e i m h =
     let more : bytes_from t 0 (i + m) ≡ s ++ v = rw zero-add at (bytes_from_more t 0 i m) in
     rw more (rw seam at (placed_placed 0 s v e (omega (arith, length_bytes_from t 0 i, length_bytes_from t i m))))
 
--- one byte more, joined from two of the track
-pub placed_bytes_suc : (t e : List ℕ) (i j : ℕ) {place at after low high : ℕ} → place ≡ i + j → at ≡ 1 + 2 * place → after ≡ at + 1
+-- one byte more, joined from two of the track, where the bytes from byte i on are placed at p
+pub placed_bytes_suc : (t e : List ℕ) (p i j : ℕ) {place at after low high : ℕ} → place ≡ p + j → at ≡ 1 + 2 * (i + j) → after ≡ at + 1
     → low ≡ four_bits (get_or t at 0) → high ≡ four_bits (get_or t after 0) → place < length e
-    → set (placed i (bytes_from t i j) e) place (low + 16 * high) ≡ placed i (bytes_from t i (j + 1)) e
+    → set (placed p (bytes_from t i j) e) place (low + 16 * high) ≡ placed p (bytes_from t i (j + 1)) e
 unfolding bytes_from
-placed_bytes_suc t e i j {place} {at} {after} {low} {high} here first second lower upper h =
+placed_bytes_suc t e p i j {place} {at} {after} {low} {high} here first second lower upper h =
     let s : List ℕ = bytes_from t i j in
-    let next : after ≡ 1 + (2 * place + 1) = omega arith in
-    let joined : low + 16 * high ≡ byte_at t place = rw (lower, upper, next, first, ← byte_of_fours t place) in
-    let last : bytes_from t i (j + 1) ≡ s ++ byte_at t place ∷ [] = rw here (bytes_from_more t i j 1) in
-    let seam : place ≡ i + length s = omega (arith, length_bytes_from t i j) in
-    rw (joined, last, seam) (set_placed i s e _ (omega arith))
+    let next : after ≡ 1 + (2 * (i + j) + 1) = omega arith in
+    let joined : low + 16 * high ≡ byte_at t (i + j) = rw (lower, upper, next, first, ← byte_of_fours t (i + j)) in
+    let last : bytes_from t i (j + 1) ≡ s ++ byte_at t (i + j) ∷ [] = bytes_from_more t i j 1 in
+    let seam : place ≡ p + length s = omega (arith, length_bytes_from t i j) in
+    rw (joined, last, seam) (set_placed p s e _ (omega arith))
+
+-- bytes over all of a list, or of a part of one
+whole : (s e : List ℕ) → length e ≡ length s → placed 0 s e ≡ s
+unfolding over
+whole s e h = placed_start s e ∙ rw (drop_of_length-le e {i = length s} (omega arith), append-nil)
+
+part_placed : (at k : ℕ) (s e : List ℕ) → length s ≡ k → put_mid at k e s ≡ placed at s e
+unfolding placed
+part_placed at k s e is = rw (is, drop-drop, append_assoc) refl
+
+pub bytes_in_part : (t e : List ℕ) (i n : ℕ) → i + n ≤ length e
+    → put_mid i (i + n - i) e (placed 0 (bytes_from t i n) (between i (i + n) e)) ≡ placed i (bytes_from t i n) e
+bytes_in_part t e i n h =
+    let s : List ℕ = bytes_from t i n in
+    let long : length s ≡ i + n - i = omega (arith, length_bytes_from t i n) in
+    ap (put_mid i (i + n - i) e) (whole s (between i (i + n) e) (omega (arith, length-between e i (i + n) h))) ∙ part_placed i (i + n - i) s e long
 
 -- the four bits of one byte more
 pub fours_suc : (t fours : List ℕ) (at k : ℕ) → k < length fours → ((q : ℕ) → q < k → get_or fours q 0 ≡ four_bits (get_or t (at + q) 0))

@@ -5,6 +5,11 @@ use mathlib.Core.Bool.{Bool, true, false, cond, false≢true}
 use Prim.Native.Nat.{ℕ, zero, suc, ◌+◌, ◌≤◌, ◌<◌}
 use native.Mathlib.Decide.{dec_lt, ℕ_discrete}
 use native.Mathlib.Omega.{arith}
+use borrow.Author.Tests.{lt-ltb, le-ltb, ltb-true}
+use lib.Dec.{ltb}
+use Rattle.std.specs.Prelude.{Some, None}
+use Rattle.std.proofs.lemmas.Option.{cond_some, none-some}
+use Rattle.coil.specs.Steps.{found_in}
 use Rattle.coil.specs.Decoder.{first_from}
 
 -- k is the first of the n numbers from i on at which a test holds, or the number after them
@@ -51,3 +56,26 @@ first_is {test} {i} {n} {k} p = go (dec_lt f k) (dec_lt k f)
 -- a test that fails at each of them
 pub first_none : (test : ℕ → Bool) (i n : ℕ) → ((j : ℕ) → i ≤ j → j < i + n → test j ≡ false) → first_from test i n ≡ i + n
 first_none test i n all = first_is (record { least = omega arith; most = omega arith; holds = λ h. absurd (omega arith); fails = all })
+
+-- ---- a first number, where there is one
+
+pub found_below : (n k : ℕ) → k < n → Some k ≡ found_in n k
+unfolding found_in
+found_below n k h = rw (lt-ltb k n h)
+
+pub found_none : (n k : ℕ) → n ≤ k → None ≡ found_in n k
+unfolding found_in
+found_none n k h = rw (le-ltb k n h)
+
+pub found_is : (n k j : ℕ) → Some j ≡ found_in n k → (j ≡ k) × (k < n)
+unfolding found_in
+found_is n k j is =
+    let both = cond_some (ltb k n) k j (sym is) in
+    (sym both.1, ltb-true k n both.0)
+
+pub none_found : (n k : ℕ) → None ≡ found_in n k → n ≤ k
+none_found n k is = go (dec_lt k n)
+  where
+    go : Dec (k < n) → n ≤ k
+    go (yes h) = absurd (none-some k (is ∙ sym (found_below n k h)))
+    go (no h) = omega arith

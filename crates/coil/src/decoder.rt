@@ -1,11 +1,21 @@
 // From a track to its answer. The whole track is looked at before the first byte is written.
-ghost use Rattle.std.specs.Prelude.{◌≡◌, true, false, ℕ, ◌+◌, ◌-◌, ◌*◌, ◌/◌, ◌≤◌, ◌<◌, length, get_or};
+ghost use Rattle.std.specs.Prelude.{◌≡◌, true, false, ℕ, ◌+◌, ◌-◌, ◌*◌, ◌/◌, ◌≤◌, ◌<◌, length, get_or, IfOk};
 ghost use Rattle.lent.specs.Lent.{over, placed};
-ghost use Rattle.coil.specs.Decoder.{is_framed, pair_at, is_bad, first_from, bytes_from, DecodesAnswer};
-ghost use Rattle.coil.specs.Steps.{flaws, bad_bit};
+ghost use Rattle.coil.specs.Decoder.{is_framed, pair_at, is_bad, first_from, bytes_from};
+ghost use Rattle.coil.specs.Decoded.{decoded_back, DecodesAnswerTo};
+ghost use Rattle.coil.specs.Steps.{flaws, found_in, bad_bit};
 
 use crate::pulse::{END, START, bits_of, first_of, flaws_of};
 use frames::{LONGEST_ANSWER, SHORTEST_ANSWER};
+use refusals::Refusal;
+
+// What a track tells: an answer, of which the length is given, or the place of the first bad bit, which is a clash or lost.
+#[derive(Clone, Copy, Debug, PartialEq, Eq)]
+pub enum Decoded {
+    Answer(usize),
+    Clash(usize),
+    Lost(usize),
+}
 
 // Whether start, end and length are those of an answer's track.
 fn is_framed(track: &[u8]) -> bool
@@ -29,10 +39,8 @@ fn sixteen_good(track: &[u8], at: usize) -> bool
     ensures { result ≡ true → (k : ℕ) → k < 16 → flaws (get_or track.now (at + k) 0) ≡ 0 }
 {
     let mut all = 0;
-    let mut k = 0;
-    while k < 16 {
-        all |= flaws_of(track[at + k]);
-        k += 1;
+    for &b in &track[at..at + 16] {
+        all |= flaws_of(b);
     }
     all == 0
 }
@@ -43,30 +51,26 @@ fn good_bytes(track: &[u8], n: usize) -> usize
     ensures within { result ≤ n }
     ensures passed { (j : ℕ) → j < 4 * result → is_bad track.now j ≡ false }
 {
-    let mut i = 0;
-    while 16 <= n - i {
-        if !sixteen_good(track, 1 + i) {
-            return i;
+    for i in 0..n / 16 {
+        if !sixteen_good(track, 1 + 16 * i) {
+            return 16 * i;
         }
-        i += 16;
     }
-    i
+    n / 16 * 16
 }
 
-// The first bad bit of the n bytes after the start, or else the number of their bits.
-fn first_bad(track: &[u8], n: usize) -> usize
+// The first bad bit of the n bytes after the start.
+fn first_bad(track: &[u8], n: usize) -> Option<usize>
     requires { (1 + n ≤ length track.now) × (n ≤ 16902) }
-    ensures { result ≡ first_from (is_bad track.now) 0 (4 * n) }
+    ensures { result ≡ found_in (4 * n) (first_from (is_bad track.now) 0 (4 * n)) }
 {
-    let mut i = good_bytes(track, n);
-    while i < n {
+    for i in good_bytes(track, n)..n {
         let flaws = flaws_of(track[1 + i]);
         if flaws != 0 {
-            return 4 * i + first_of(flaws);
+            return Some(4 * i + first_of(flaws));
         }
-        i += 1;
     }
-    4 * n
+    None
 }
 
 // The two units of bit i.
@@ -86,15 +90,11 @@ fn put_sixteen(track: &[u8], at: usize, answer: &mut [u8], i: usize)
     ensures { answer.new ≡ placed i (bytes_from track.now i 16) answer.old }
 {
     let mut fours = [0u8; 32];
-    let mut k = 0;
-    while k < 32 {
-        fours[k] = bits_of(track[at + k]);
-        k += 1;
+    for (k, four) in fours.iter_mut().enumerate() {
+        *four = bits_of(track[at + k]);
     }
-    let mut j = 0;
-    while j < 16 {
-        answer[i + j] = fours[2 * j] + 16 * fours[2 * j + 1];
-        j += 1;
+    for (j, byte) in answer[i..i + 16].iter_mut().enumerate() {
+        *byte = fours[2 * j] + 16 * fours[2 * j + 1];
     }
 }
 
@@ -104,51 +104,43 @@ fn put_bytes(track: &[u8], n: usize, answer: &mut [u8])
     requires n_in_bounds_2 { n ≤ length answer.old }
     ensures { answer.new ≡ over (bytes_from track.now 0 n) answer.old }
 {
-    let mut at = 1;
-    let mut i = 0;
-    while 16 <= n - i {
-        put_sixteen(track, at, answer, i);
-        at += 32;
-        i += 16;
+    for i in 0..n / 16 {
+        put_sixteen(track, 1 + 32 * i, answer, 16 * i);
     }
-    while i < n {
-        let low = bits_of(track[at]);
-        let high = bits_of(track[at + 1]);
-        answer[i] = low + 16 * high;
-        at += 2;
-        i += 1;
+    for k in n / 16 * 16..n {
+        let low = bits_of(track[1 + 2 * k]);
+        let high = bits_of(track[2 + 2 * k]);
+        answer[k] = low + 16 * high;
     }
 }
 
-// What is told of a bad bit: a clash, or else that it is lost.
+// What a bad bit is: a clash, or else lost.
 #[tactic(auto, unfolding(crate::specs::Steps::bad_bit))]
-fn bad_bit(track: &[u8], k: usize) -> usize
-    requires { (1 + k / 4 < length track.now) × (k < 67608) }
+fn bad_bit(track: &[u8], k: usize) -> Decoded
+    requires { 1 + k / 4 < length track.now }
     ensures { result ≡ bad_bit track.now k }
 {
     if pair_at(track, k) == 3 {
-        131072 + k
+        Decoded::Clash(k)
     } else {
-        262144 + k
+        Decoded::Lost(k)
     }
 }
 
-// The answer of a track at the start of the room that is lent. Returns 131,072 times the kind and a number: kind 0 is an answer and its length,
-// 1 a clash and 2 a lost bit, with the first such bit's place; or minus the number of the refusal.
-pub fn decode(track: &[u8], answer: &mut [u8]) -> i64
-    ensures { DecodesAnswer track.now answer.old result answer.new }
+// The answer of a track at the start of the room that is lent.
+pub fn decode(track: &[u8], answer: &mut [u8]) -> Result<Decoded, Refusal>
+    ensures { DecodesAnswerTo track.now answer.old result answer.new }
 {
     if answer.len() < LONGEST_ANSWER {
-        return -8;
+        return Err(Refusal::Room);
     }
     if !is_framed(track) {
-        return -12;
+        return Err(Refusal::NoAnswerTrack);
     }
     let n = (track.len() - 2) / 2;
-    let k = first_bad(track, 2 * n);
-    if 8 * n <= k {
-        put_bytes(track, n, answer);
-        return n as i64;
+    if let Some(k) = first_bad(track, 2 * n) {
+        return Ok(bad_bit(track, k));
     }
-    bad_bit(track, k) as i64
+    put_bytes(track, n, answer);
+    Ok(Decoded::Answer(n))
 }

@@ -17,6 +17,7 @@ use Rattle.card.specs.Inventory.{inventoried}
 use Rattle.commands.specs.Request.{silent, requested}
 use Rattle.card.specs.Frame.{heard_inventory}
 use Rattle.commands.specs.Frame.{leaving, decided}
+use Rattle.commands.specs.Verdict.{heeded}
 
 -- a frame that is not sound gets silence, with the next state fixed
 pub unsound_silent : (c : Card) (locks frame : List ℕ) → is_sound frame ≡ false → decided c locks frame ≡ silent (cleared c)
@@ -40,3 +41,9 @@ inventory_frame c locks frame e = go (is_sound frame) ((flags_of (get_or frame 0
     go false z i e = refl
     go true true i e = refl
     go true false i e = rw e
+
+-- and any other frame what `request` says
+pub other_frame : (c : Card) (locks frame : List ℕ) → (flags_of (get_or frame 0 0)).b3 ≡ false
+    → decided c locks frame ≡ heeded (cleared c) locks (flags_of (get_or frame 0 0)) frame
+unfolding decided heeded
+other_frame c locks frame e = rw e

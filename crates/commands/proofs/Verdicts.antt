@@ -1,10 +1,8 @@
--- What verdicts make of a card, and how the definitions of steps 4 to 6 go by the code of the first fault and by whom a request is for. By
--- cases on the tests. Assumes nothing.
+-- What verdicts make of a card, and how the definitions of step 4 go by whom a request is for. By cases on the tests. Assumes nothing.
 use mathlib.Core.Path.{◌≡◌, refl}
-use mathlib.Core.Bool.{Bool, true, false, cond, not, ◌&&◌, ◌||◌}
+use mathlib.Core.Bool.{Bool, true, false, cond, not, ◌||◌}
 use mathlib.Core.List.{List}
-use Prim.Native.Nat.{ℕ, ◌≤◌}
-use native.Mathlib.Omega.{arith}
+use Prim.Native.Nat.{ℕ}
 use lib.Dec.{ltb, eqb}
 use lib.ListN.{length, get_or}
 use Rattle.frames.specs.declared.Flags.{Flags}
@@ -13,8 +11,7 @@ use Rattle.frames.specs.Frame.{is_sound}
 use Rattle.card.specs.declared.Card.{Card}
 use Rattle.card.specs.declared.Mode.{Mode}
 use Rattle.card.specs.declared.Reply.{Reply}
-use Rattle.card.specs.declared.Reply.TheVariants.{Silence, Error, Done, Present, Blocks, Status, Information}
-use Rattle.card.specs.declared.Held.TheVariants.{Success}
+use Rattle.card.specs.declared.Reply.TheVariants.{Error, Done}
 use Rattle.commands.specs.declared.Effect.{Effect}
 use Rattle.commands.specs.declared.Effect.TheVariants.{Leave}
 use Rattle.commands.specs.declared.Deed.{Deed}
@@ -23,19 +20,8 @@ use Rattle.commands.specs.declared.verdict.Change.TheVariants.{Nothing}
 use Rattle.commands.specs.declared.request.Address.{Address}
 use Rattle.commands.specs.declared.request.Address.TheVariants.{Nobody, Another, Own}
 use Rattle.card.specs.Record.{is_quiet, is_selected, in_mode}
-use Rattle.commands.specs.Request.{deed, silent, fault, done, failed, commanded, is_listed, body_asked, refuses_option, holds_answer, body_length, judged, sorted, passed_by, addressed, unaddressed, requested}
-use Rattle.commands.specs.Verdict.{verdict, changed, kept, made, turned, fault_of, to_whom, body_place, heeded}
-
--- all but an error are held as success
-pub kept_success : (reply : Reply) → ((code : ℕ) → reply ≡ Error code → ⊥) → Success ≡ kept reply
-unfolding kept
-kept_success Silence h = refl
-kept_success (Error code) h = absurd (h code refl)
-kept_success Done h = refl
-kept_success Present h = refl
-kept_success (Blocks first n option) h = refl
-kept_success (Status first n) h = refl
-kept_success Information h = refl
+use Rattle.commands.specs.Request.{deed, silent, done, failed, sorted, passed_by, addressed, unaddressed, requested}
+use Rattle.commands.specs.Verdict.{verdict, changed, kept, made, turned, to_whom, body_place, heeded}
 
 pub made_answer : (c : Card) (reply : Reply) → made c (verdict Nothing Leave reply false) ≡ deed c Leave reply
 unfolding made changed
@@ -57,45 +43,16 @@ unfolding made changed turned
 made_turned c true mode = refl
 made_turned c false mode = refl
 
--- step 6 by the code of the first fault
-pub judged_by : (c : Card) (locks : List ℕ) (f : Flags) (frame : List ℕ) (at command : ℕ) {body code : ℕ}
-    → body ≡ body_length frame at → code ≡ fault_of f.b7 frame at command body c.size
-    → judged c locks f frame at command
-    ≡ cond (eqb code 0) (commanded c locks f.b7 frame at command) (failed (eqb code 2 && (f.b7 && holds_answer command)) c code)
-unfolding judged fault_of failed
-judged_by c locks f frame at command b e =
-    rw (e, b) (go (is_listed command) (eqb (body_length frame at) (body_asked frame at command c.size)) (f.b7 && refuses_option command))
-  where
-    x : Deed
-    x = commanded c locks f.b7 frame at command
-
-    h : Bool
-    h = f.b7 && holds_answer command
-
-    go : (listed fits refused : Bool)
-        → ◌≡◌ {A = Deed} (cond listed (cond fits (cond refused (fault c 3) x) (failed h c 2)) (fault c 1))
-        (cond (eqb (cond listed (cond fits (cond refused 3 0) 2) 1) 0) x
-        (failed (eqb (cond listed (cond fits (cond refused 3 0) 2) 1) 2 && h) c (cond listed (cond fits (cond refused 3 0) 2) 1)))
-    go false fits refused = refl
-    go true false refused = refl
-    go true true true = refl
-    go true true false = refl
-
--- where the body stands
-pub place_most : (f : Flags) → body_place f ≤ 10
-place_most f = go f.b6
-  where
-    go : (address : Bool) → cond address 10 2 ≤ 10
-    go true = omega arith
-    go false = omega arith
+-- what a verdict makes of a card
+pub ruleset makes = (made_answer, made_done, made_failed, made_turned)
 
 -- steps 1, 2 and 4 by whom the frame is for
-unfoldable pub answered : Card → List ℕ → Flags → List ℕ → ℕ → Address → Deed
+unfoldable answered : Card → List ℕ → Flags → List ℕ → ℕ → Address → Deed
 answered c locks f frame at Nobody = silent c
 answered c locks f frame at Another = passed_by c (get_or frame 1 0)
 answered c locks f frame at Own = sorted c locks f frame at
 
-pub heeded_by : (c : Card) (locks : List ℕ) (f : Flags) (frame : List ℕ)
+heeded_by : (c : Card) (locks : List ℕ) (f : Flags) (frame : List ℕ)
     → heeded c locks f frame ≡ answered c locks f frame (body_place f) (to_whom c f frame)
 unfolding heeded requested addressed unaddressed to_whom answered
 heeded_by c locks f frame =
@@ -126,3 +83,20 @@ heeded_by c locks f frame =
     go true false true false true equal on = refl
     go true false true false false true on = refl
     go true false true false false false on = refl
+
+pub heeded_nobody : (c : Card) (locks : List ℕ) (f : Flags) (frame : List ℕ) → to_whom c f frame ≡ Nobody → heeded c locks f frame ≡ silent c
+unfolding answered
+heeded_nobody c locks f frame e = rw (heeded_by, e)
+
+pub heeded_another : (c : Card) (locks : List ℕ) (f : Flags) (frame : List ℕ) → to_whom c f frame ≡ Another
+    → heeded c locks f frame ≡ passed_by c (get_or frame 1 0)
+unfolding answered
+heeded_another c locks f frame e = rw (heeded_by, e)
+
+pub heeded_own : (c : Card) (locks : List ℕ) (f : Flags) (frame : List ℕ) → to_whom c f frame ≡ Own
+    → heeded c locks f frame ≡ sorted c locks f frame (body_place f)
+unfolding answered
+heeded_own c locks f frame e = rw (heeded_by, e)
+
+-- what a frame comes to, by whom it is for
+pub ruleset heeds = (heeded_nobody, heeded_another, heeded_own)

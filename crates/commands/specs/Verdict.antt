@@ -1,6 +1,6 @@
 -- Steps of private functions: nothing here has to be held against the rules page.
 -- What a request comes to, said without the record: how the card's functions hand it on until the record is made.
-use Rattle.std.specs.Prelude.{Bool, false, cond, not, ◌&&◌, List, ℕ, ◌+◌, ltb, eqb, length}
+use Rattle.std.specs.Prelude.{Bool, false, cond, not, List, ℕ, ltb, eqb, length}
 use Rattle.frames.specs.declared.Flags.{Flags}
 use Rattle.frames.specs.Flags.{sets_reserved, selects, addresses}
 use Rattle.frames.specs.Field.{field_at}
@@ -20,7 +20,7 @@ use Rattle.commands.specs.declared.verdict.Verdict.{Verdict}
 use Rattle.commands.specs.declared.request.Address.{Address}
 use Rattle.commands.specs.declared.request.Address.TheVariants.{Nobody, Another, Own}
 use Rattle.card.specs.Record.{is_quiet, is_selected, in_mode, holding, with_afi, with_dsfid}
-use Rattle.commands.specs.Request.{deed, silent, reads, writes, locks_block, tells_locks, width, is_listed, body_asked, refuses_option, requested}
+use Rattle.commands.specs.Request.{deed, silent, requested}
 
 abbrev pub verdict : Change → Effect → Reply → Bool → Verdict
 verdict change effect reply hold = record { change = change; effect = effect; reply = reply; hold = hold }
@@ -50,23 +50,6 @@ made c v =
 -- silence, in another mode where the test holds
 unfoldable pub turned : Bool → Mode → Verdict
 turned test mode = verdict (cond test (InMode mode) Nothing) Leave Silence false
-
--- the part of the table with commands on blocks
-unfoldable pub on_blocks : Card → List ℕ → Bool → List ℕ → ℕ → ℕ → Deed
-on_blocks c locks option frame at command =
-    let w : ℕ = width command in
-    let first : ℕ = field_at frame at w in
-    let second : ℕ = field_at frame (at + w) w in
-    cond (eqb command 0x20) (reads c option first 0)
-    (cond (eqb command 0x21) (writes c locks option first 0 (at + w))
-    (cond (eqb command 0x22) (locks_block c locks option first)
-    (cond (eqb command 0x23) (reads c option first second)
-    (tells_locks c first second))))
-
--- step 6: the code of the first of the errors 01, 02 and 03, or 00
-unfoldable pub fault_of : Bool → List ℕ → ℕ → ℕ → ℕ → ℕ → ℕ
-fault_of option frame at command body size =
-    cond (is_listed command) (cond (eqb body (body_asked frame at command size)) (cond (option && refuses_option command) 0x03 0x00) 0x02) 0x01
 
 -- steps 1, 2 and 4: for whom a frame is that is no inventory request
 unfoldable pub to_whom : Card → Flags → List ℕ → Address

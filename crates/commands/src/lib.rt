@@ -8,8 +8,7 @@ mod request;
 mod verdict;
 
 use crate::request::request;
-use crate::verdict::carry;
-use card::{Card, Reply};
+use card::{Card, Reply, Turn};
 use frames::{Flags, byte_at};
 
 // What a frame does to memory and locks: nothing; into so many blocks from the first on the data at a place of the frame; a block locked.
@@ -29,20 +28,19 @@ pub struct Deed {
 }
 
 // What a frame makes of a card.
+#[tactic(auto, using(crate::proofs::Rules::inventory_frame, crate::proofs::Rules::other_frame))]
 pub fn decide(card: Card, locks: &[u8], frame: &[u8]) -> Deed
     ensures { result ≡ decided card locks.now frame.now }
 {
     let f = Flags::of(byte_at(frame, 0));
     if f.b3 {
-        let turn = card.hear_inventory(frame);
-        let next = turn.card;
-        let reply = turn.reply;
+        let Turn { card, reply } = card.hear_inventory(frame);
         return Deed {
-            card: next,
+            card,
             effect: Effect::Leave,
-            reply: reply,
+            reply,
         };
     }
-    let clear = card.cleared();
-    carry(clear, request(clear, locks, f, frame))
+    let card = card.cleared();
+    request(&card, locks, f, frame).carry(card)
 }

@@ -1,313 +1,207 @@
 // Every other request: to whom it goes, its faults in order, and the table of commands.
-ghost use Rattle.std.specs.Prelude.{◌≡◌, cond, not, ◌&&◌, ◌||◌, ltb, eqb, ◌+◌, ◌≤◌};
+ghost use Rattle.std.specs.Prelude.{◌≡◌, cond, not, ltb, ◌+◌, ◌≤◌, get_or};
 ghost use Rattle.card.specs.Record.{is_quiet, is_selected};
 ghost use Rattle.frames.specs.Field.{field_at};
-ghost use Rattle.commands.specs.Request.{deed, fault, done, failed, any_locked, width, commanded, is_listed, body_asked, holds_answer, body_length, sorted};
-ghost use Rattle.commands.specs.Verdict.{changed, made, turned, fault_of, to_whom, body_place, heeded, on_blocks};
+ghost use Rattle.commands.specs.Request.{deed, fault, done, failed, any_locked, width, commanded, is_listed, body_asked, refuses_option, holds_answer, body_length, judged, sorted};
+ghost use Rattle.commands.specs.Verdict.{changed, made, to_whom, body_place, heeded};
 
 use crate::Effect;
-use crate::verdict::{Change, Verdict, answer, fail, succeed};
+use crate::verdict::{Change, Verdict};
 use card::{Card, Mode, Reply};
 use frames::{Flags, byte_at};
 
 // How many bytes a block number has in the frames of a command, and n likewise.
+#[tactic(auto, unfolding(crate::specs::Request::width))]
 fn width(command: u8) -> usize
     ensures { result ≡ width command }
 {
     1
 }
 
-// The block number, or n, at a place of the frame of a command.
-fn number_at(frame: &[u8], at: usize, command: u8) -> u16
-    ensures { result ≡ field_at frame.now at (width command) }
-{
-    byte_at(frame, at) as u16
-}
-
-// Whether n + 1 blocks from the first on are the card's.
-fn has_blocks(card: Card, first: u32, n: u32) -> bool
-    ensures { result ≡ ltb (first + n) card.blocks }
-{
-    (first as u64) + (n as u64) < (card.blocks as u64)
-}
-
-// A reply on n + 1 blocks, if they are the card's.
-fn tell(card: Card, first: u32, n: u32, reply: Reply) -> Verdict
-    ensures { made card result ≡ cond (ltb (first + n) card.blocks) (deed card Effect.Leave reply) (fault card 0x10) }
-{
-    if has_blocks(card, first, n) {
-        answer(reply)
-    } else {
-        fail(false, 0x10)
-    }
-}
-
-fn either(a: bool, b: bool) -> bool
-    ensures { result ≡ (a || b) }
-{
-    if a { true } else { b }
-}
-
 // Whether a lock byte of n + 1 from the first on is not 0.
 fn any_locked(locks: &[u8], first: u32, n: u32) -> bool
     ensures { result ≡ any_locked locks.now first (n + 1) }
 {
-    let start = first as usize;
-    let count = (n as usize) + 1;
-    let mut found = false;
-    let mut i = 0;
-    while i < count {
-        found = either(found, byte_at(locks, start + i) != 0);
-        i += 1;
-    }
-    found
+    (0..n as usize + 1).any(|i| byte_at(locks, first as usize + i) != 0)
 }
 
-// An effect on n + 1 blocks, if they are the card's and all are open; the code is for a locked one.
-fn store(
-    card: Card,
-    locks: &[u8],
-    option: bool,
-    first: u32,
-    n: u32,
-    code: u8,
-    effect: Effect,
-) -> Verdict
-    ensures { made card result ≡ cond (ltb (first + n) card.blocks) (cond (any_locked locks.now first (n + 1)) (failed option card code) (done option card effect)) (failed option card 0x10) }
-{
-    if has_blocks(card, first, n) {
-        if any_locked(locks, first, n) {
-            fail(option, code)
-        } else {
-            succeed(option, Change::Nothing, effect)
-        }
-    } else {
-        fail(option, 0x10)
-    }
-}
-
-// AFI or DSFID changed, if it is not locked; the code is for a locked one.
-fn alter(card: Card, locked: bool, option: bool, code: u8, change: Change) -> Verdict
-    ensures { made card result ≡ cond locked (failed option card code) (done option (changed card change) Effect.Leave) }
-{
-    if locked {
-        fail(option, code)
-    } else {
-        succeed(option, change, Effect::Leave)
-    }
-}
-
+#[tactic(auto, unfolding(crate::specs::Request::is_listed))]
 fn is_listed(command: u8) -> bool
     ensures { result ≡ is_listed command }
 {
-    if command < 0x20 {
-        return false;
-    }
-    if 0x2c < command {
-        return false;
-    }
-    command != 0x24
+    matches!(command, 0x20..=0x23 | 0x25..=0x2c)
 }
 
-fn is_one_of(x: u8, a: u8, b: u8, c: u8, d: u8) -> bool
-    ensures { result ≡ (eqb x a || (eqb x b || (eqb x c || eqb x d))) }
+#[tactic(auto, unfolding(crate::specs::Request::refuses_option))]
+fn refuses_option(command: u8) -> bool
+    ensures { result ≡ refuses_option command }
 {
-    if x == a {
-        return true;
-    }
-    if x == b {
-        return true;
-    }
-    if x == c {
-        return true;
-    }
-    x == d
+    matches!(command, 0x25 | 0x26 | 0x2b | 0x2c)
 }
 
-// How many bytes the body at a place of the frame has to have.
-fn body_asked(frame: &[u8], at: usize, command: u8, size: u32) -> usize
-    ensures { result ≡ body_asked frame.now at command size }
+#[tactic(auto, unfolding(crate::specs::Request::holds_answer))]
+fn holds_answer(command: u8) -> bool
+    ensures { result ≡ holds_answer command }
 {
-    let w = width(command);
-    match command {
-        0x20 => w,
-        0x21 => w + (size as usize),
-        0x22 => w,
-        0x23 => w + w,
-        0x27 => 1,
-        0x29 => 1,
-        0x2c => w + w,
-        _ => 0,
-    }
+    matches!(command, 0x21 | 0x22 | 0x27..=0x2a)
 }
 
-// Whether a fault is held: a wrong body length alone, with Option, where the command holds its answer.
-fn holds(code: u8, option: bool, command: u8) -> bool
-    ensures { result ≡ (eqb code 0x02 && (option && holds_answer command)) }
-{
-    if code != 0x02 {
-        return false;
-    }
-    if !option {
-        return false;
-    }
-    if command == 0x21 {
-        return true;
-    }
-    if command == 0x22 {
-        return true;
-    }
-    if command < 0x27 {
-        return false;
-    }
-    command <= 0x2a
-}
-
-fn body_length(frame: &[u8], at: usize) -> usize
-    requires { at ≤ 10 }
-    ensures { result ≡ body_length frame.now at }
-{
-    let n = frame.len();
-    if at + 2 <= n { n - (at + 2) } else { 0 }
-}
-
-fn both(a: bool, b: bool) -> bool
-    ensures { result ≡ (a && b) }
-{
-    if a { b } else { false }
-}
-
-// The commands on blocks. The body stands at a place of the frame.
-fn serve_blocks(
-    card: Card,
-    locks: &[u8],
-    option: bool,
-    frame: &[u8],
+// A request for the card itself: its record and lock bytes, the flags, the frame with the place of the body there, and the command.
+#[derive(Clone, Copy)]
+struct Asked<'a> {
+    card: &'a Card,
+    locks: &'a [u8],
+    flags: Flags,
+    frame: &'a [u8],
     at: usize,
     command: u8,
-) -> Verdict
-    requires { at ≤ 10 }
-    ensures { made card result ≡ on_blocks card locks.now option frame.now at command }
-{
-    let w = width(command);
-    let first = number_at(frame, at, command) as u32;
-    let second = number_at(frame, at + w, command) as u32;
-    let count = second + 1;
-    let place = (at + w) as u32;
-    match command {
-        0x20 => tell(card, first, 0, Reply::Blocks(first, 1, option)),
-        0x21 => store(
-            card,
-            locks,
-            option,
-            first,
-            0,
-            0x12,
-            Effect::Write(first, 1, place),
-        ),
-        0x22 => store(card, locks, option, first, 0, 0x11, Effect::Lock(first)),
-        0x23 => tell(card, first, second, Reply::Blocks(first, count, option)),
-        _ => tell(card, first, second, Reply::Status(first, count)),
-    }
+    ghost fits: { at ≤ 10 },
+    ghost read: { command ≡ get_or frame.now 1 0 },
 }
 
-// The table, command by command.
-fn perform(card: Card, locks: &[u8], option: bool, frame: &[u8], at: usize, command: u8) -> Verdict
-    requires { at ≤ 10 }
-    ensures { made card result ≡ commanded card locks.now option frame.now at command }
-{
-    let value = byte_at(frame, at);
-    match command {
-        0x25 => succeed(false, Change::InMode(Mode::Selected), Effect::Leave),
-        0x26 => succeed(false, Change::InMode(Mode::Ready), Effect::Leave),
-        0x27 => alter(
-            card,
-            card.afi_locked,
-            option,
-            0x12,
-            Change::Afi(value, false),
-        ),
-        0x28 => alter(
-            card,
-            card.afi_locked,
-            option,
-            0x11,
-            Change::Afi(card.afi, true),
-        ),
-        0x29 => alter(
-            card,
-            card.dsfid_locked,
-            option,
-            0x12,
-            Change::Dsfid(value, false),
-        ),
-        0x2a => alter(
-            card,
-            card.dsfid_locked,
-            option,
-            0x11,
-            Change::Dsfid(card.dsfid, true),
-        ),
-        0x2b => answer(Reply::Information),
-        _ => serve_blocks(card, locks, option, frame, at, command),
+impl Asked<'_> {
+    // The block number, or n, at a place of the frame.
+    #[tactic(auto, using(frames::proofs::Fields::field_of_one), unfolding(crate::specs::Request::width))]
+    fn number_at(&self, at: usize) -> u16
+        ensures { result ≡ field_at self.now.frame.now at (width self.now.command) }
+    {
+        u16::from(byte_at(self.frame, at))
     }
-}
 
-// The code of the first fault that comes before the table, or 00 for none.
-fn first_fault(option: bool, frame: &[u8], at: usize, command: u8, body: usize, size: u32) -> u8
-    ensures { result ≡ fault_of option frame.now at command body size }
-{
-    if !is_listed(command) {
-        return 0x01;
+    // Whether n + 1 blocks from the first on are the card's.
+    fn has_blocks(&self, first: u32, n: u32) -> bool
+        ensures { result ≡ ltb (first + n) self.now.card.now.blocks }
+    {
+        u64::from(first) + u64::from(n) < u64::from(self.card.blocks)
     }
-    let wrong = body != body_asked(frame, at, command, size);
-    let refused = both(option, is_one_of(command, 0x25, 0x26, 0x2b, 0x2c));
-    if wrong {
-        return 0x02;
-    }
-    if refused {
-        return 0x03;
-    }
-    0x00
-}
 
-// Silence, in another mode if the test holds.
-fn turn_if(test: bool, mode: Mode) -> Verdict
-    ensures { result ≡ turned test mode }
-{
-    if test {
-        Verdict {
-            change: Change::InMode(mode),
-            effect: Effect::Leave,
-            reply: Reply::Silence,
-            hold: false,
+    // A reply on n + 1 blocks, if they are the card's.
+    #[tactic(auto, using(crate::proofs::Verdicts::makes))]
+    fn tell(&self, first: u32, n: u32, reply: Reply) -> Verdict
+        ensures { made self.now.card.now result ≡ cond (ltb (first + n) self.now.card.now.blocks) (deed self.now.card.now Effect.Leave reply) (fault self.now.card.now 0x10) }
+    {
+        if self.has_blocks(first, n) {
+            Verdict::answer(reply)
+        } else {
+            Verdict::fail(false, 0x10)
         }
-    } else {
-        answer(Reply::Silence)
     }
-}
 
-// 02 and an unaddressed 25, then the faults, then the table.
-fn sort(card: Card, locks: &[u8], f: Flags, frame: &[u8], at: usize) -> Verdict
-    requires { at ≤ 10 }
-    ensures { made card result ≡ sorted card locks.now f frame.now at }
-{
-    let command = byte_at(frame, 1);
-    let body = body_length(frame, at);
-    if command == 0x02 {
-        return turn_if(both(f.b6, body == 0), Mode::Quiet);
+    // An effect on n + 1 blocks, if they are the card's and all are open; the code is for a locked one.
+    #[tactic(auto, using(crate::proofs::Verdicts::makes), unfolding(crate::specs::Verdict::changed))]
+    fn store(&self, first: u32, n: u32, code: u8, effect: Effect) -> Verdict
+        ensures { made self.now.card.now result ≡ cond (ltb (first + n) self.now.card.now.blocks) (cond (any_locked self.now.locks.now first (n + 1)) (failed self.now.flags.b7 self.now.card.now code) (done self.now.flags.b7 self.now.card.now effect)) (failed self.now.flags.b7 self.now.card.now 0x10) }
+    {
+        if !self.has_blocks(first, n) {
+            return Verdict::fail(self.flags.b7, 0x10);
+        }
+        if any_locked(self.locks, first, n) {
+            return Verdict::fail(self.flags.b7, code);
+        }
+        Verdict::succeed(self.flags.b7, Change::Nothing, effect)
     }
-    if both(command == 0x25, !f.b6) {
-        return answer(Reply::Silence);
+
+    // AFI or DSFID changed, if it is not locked; the code is for a locked one.
+    #[tactic(auto, using(crate::proofs::Verdicts::makes))]
+    fn alter(&self, locked: bool, code: u8, change: Change) -> Verdict
+        ensures { made self.now.card.now result ≡ cond locked (failed self.now.flags.b7 self.now.card.now code) (done self.now.flags.b7 (changed self.now.card.now change) Effect.Leave) }
+    {
+        if locked {
+            Verdict::fail(self.flags.b7, code)
+        } else {
+            Verdict::succeed(self.flags.b7, change, Effect::Leave)
+        }
     }
-    let code = first_fault(f.b7, frame, at, command, body, card.size);
-    if code == 0x00 {
-        return perform(card, locks, f.b7, frame, at, command);
+
+    // How many bytes the body has to have.
+    #[tactic(auto, unfolding(crate::specs::Request::body_asked, crate::specs::Request::width))]
+    fn body_asked(&self) -> usize
+        ensures { result ≡ body_asked self.now.frame.now self.now.at self.now.command self.now.card.now.size }
+    {
+        let w = width(self.command);
+        match self.command {
+            0x20 | 0x22 => w,
+            0x21 => w + self.card.size as usize,
+            0x23 | 0x2c => w + w,
+            0x27 | 0x29 => 1,
+            _ => 0,
+        }
     }
-    fail(holds(code, f.b7, command), code)
+
+    // How many it has: those up to the check.
+    #[tactic(auto, unfolding(crate::specs::Request::body_length))]
+    fn body_length(&self) -> usize
+        ensures { result ≡ body_length self.now.frame.now self.now.at }
+    {
+        self.frame.len().saturating_sub(self.at + 2)
+    }
+
+    // The table, command by command.
+    #[tactic(auto, using(crate::proofs::Blocks::any_locked_one, crate::proofs::Verdicts::makes), unfolding(crate::specs::Request::commanded, crate::specs::Request::reads, crate::specs::Request::writes, crate::specs::Request::locks_block, crate::specs::Request::tells_locks, crate::specs::Request::writes_afi, crate::specs::Request::locks_afi, crate::specs::Request::writes_dsfid, crate::specs::Request::locks_dsfid, crate::specs::Request::width, crate::specs::Request::done, crate::specs::Verdict::changed))]
+    fn perform(&self) -> Verdict
+        ensures { made self.now.card.now result ≡ commanded self.now.card.now self.now.locks.now self.now.flags.b7 self.now.frame.now self.now.at self.now.command }
+    {
+        let option = self.flags.b7;
+        let w = width(self.command);
+        let first = u32::from(self.number_at(self.at));
+        let second = u32::from(self.number_at(self.at + w));
+        let count = second + 1;
+        let place = (self.at + w) as u32;
+        let value = byte_at(self.frame, self.at);
+        match self.command {
+            0x20 => self.tell(first, 0, Reply::Blocks(first, 1, option)),
+            0x21 => self.store(first, 0, 0x12, Effect::Write(first, 1, place)),
+            0x22 => self.store(first, 0, 0x11, Effect::Lock(first)),
+            0x23 => self.tell(first, second, Reply::Blocks(first, count, option)),
+            0x25 => Verdict::succeed(false, Change::InMode(Mode::Selected), Effect::Leave),
+            0x26 => Verdict::succeed(false, Change::InMode(Mode::Ready), Effect::Leave),
+            0x27 => self.alter(self.card.afi_locked, 0x12, Change::Afi(value, false)),
+            0x28 => self.alter(self.card.afi_locked, 0x11, Change::Afi(self.card.afi, true)),
+            0x29 => self.alter(self.card.dsfid_locked, 0x12, Change::Dsfid(value, false)),
+            0x2a => self.alter(
+                self.card.dsfid_locked,
+                0x11,
+                Change::Dsfid(self.card.dsfid, true),
+            ),
+            0x2b => Verdict::answer(Reply::Information),
+            _ => self.tell(first, second, Reply::Status(first, count)),
+        }
+    }
+
+    // The faults 01, 02 and 03 in this order, then the table.
+    #[tactic(auto, using(crate::proofs::Verdicts::makes), unfolding(crate::specs::Request::judged))]
+    fn judge(&self) -> Verdict
+        ensures { made self.now.card.now result ≡ judged self.now.card.now self.now.locks.now self.now.flags self.now.frame.now self.now.at self.now.command }
+    {
+        let option = self.flags.b7;
+        if !is_listed(self.command) {
+            return Verdict::fail(false, 0x01);
+        }
+        if self.body_length() != self.body_asked() {
+            return Verdict::fail(option && holds_answer(self.command), 0x02);
+        }
+        if option && refuses_option(self.command) {
+            return Verdict::fail(false, 0x03);
+        }
+        self.perform()
+    }
+
+    // 02 and an unaddressed 25, then all others.
+    #[tactic(auto, using(crate::proofs::Verdicts::makes), unfolding(crate::specs::Request::sorted, crate::specs::Request::quieted))]
+    fn sort(&self) -> Verdict
+        ensures { made self.now.card.now result ≡ sorted self.now.card.now self.now.locks.now self.now.flags self.now.frame.now self.now.at }
+    {
+        let addressed = self.flags.b6;
+        match self.command {
+            0x02 => Verdict::turn_if(addressed && self.body_length() == 0, Mode::Quiet),
+            0x25 if !addressed => Verdict::answer(Reply::Silence),
+            _ => self.judge(),
+        }
+    }
 }
 
 // Whether a request with no address goes on: with Select for a Selected card alone, else for all but a Quiet one.
+#[tactic(auto, unfolding(card::specs::Record::is_selected, card::specs::Record::is_quiet))]
 fn goes_on(select: bool, mode: Mode) -> bool
     ensures { result ≡ cond select (is_selected mode) (not (is_quiet mode)) }
 {
@@ -326,39 +220,28 @@ enum Address {
     Own,
 }
 
-fn choose(test: bool, first: Address, second: Address) -> Address
-    ensures { result ≡ cond test first second }
+#[tactic(auto, unfolding(crate::specs::Verdict::to_whom))]
+fn address_of(card: &Card, f: Flags, frame: &[u8]) -> Address
+    ensures { result ≡ to_whom card.now f frame.now }
 {
-    if test { first } else { second }
-}
-
-fn address_of(card: Card, f: Flags, frame: &[u8]) -> Address
-    ensures { result ≡ to_whom card f frame.now }
-{
-    let mode = card.mode;
-    if !frames::is_sound(frame) {
+    if !frames::is_sound(frame) || f.b4 || f.b8 {
         return Address::Nobody;
     }
-    if f.b4 {
+    if !f.b6 {
+        return if goes_on(f.b5, card.mode) {
+            Address::Own
+        } else {
+            Address::Nobody
+        };
+    }
+    if f.b5 || frame.len() < 12 {
         return Address::Nobody;
     }
-    if f.b8 {
-        return Address::Nobody;
+    if frames::field(frame, 2, 8) == card.uid {
+        Address::Own
+    } else {
+        Address::Another
     }
-    if f.b6 {
-        if f.b5 {
-            return Address::Nobody;
-        }
-        if frame.len() < 12 {
-            return Address::Nobody;
-        }
-        return choose(
-            frames::field(frame, 2, 8) == card.uid,
-            Address::Own,
-            Address::Another,
-        );
-    }
-    choose(goes_on(f.b5, mode), Address::Own, Address::Nobody)
 }
 
 // Where the body of a request stands in the frame.
@@ -369,19 +252,27 @@ fn body_place(f: Flags) -> usize
 }
 
 // A frame that is no inventory request.
-pub(crate) fn request(card: Card, locks: &[u8], f: Flags, frame: &[u8]) -> Verdict
-    ensures { made card result ≡ heeded card locks.now f frame.now }
+#[tactic(auto, using(crate::proofs::Verdicts::makes, crate::proofs::Verdicts::heeds), unfolding(crate::specs::Request::passed_by))]
+pub(crate) fn request(card: &Card, locks: &[u8], f: Flags, frame: &[u8]) -> Verdict
+    ensures { made card.now result ≡ heeded card.now locks.now f frame.now }
 {
-    let mode = card.mode;
-    let whom = address_of(card, f, frame);
-    match whom {
-        Address::Nobody => answer(Reply::Silence),
-        Address::Another => {
-            turn_if(
-                both(byte_at(frame, 1) == 0x25, goes_on(true, mode)),
-                Mode::Ready,
-            )
+    let command = byte_at(frame, 1);
+    match address_of(card, f, frame) {
+        Address::Nobody => Verdict::answer(Reply::Silence),
+        Address::Another => Verdict::turn_if(
+            command == 0x25 && goes_on(true, card.mode),
+            Mode::Ready,
+        ),
+        Address::Own => {
+            let asked = Asked {
+                card,
+                locks,
+                flags: f,
+                frame,
+                at: body_place(f),
+                command,
+            };
+            asked.sort()
         }
-        Address::Own => sort(card, locks, f, frame, body_place(f)),
     }
 }

@@ -1,6 +1,6 @@
 // What a request comes to, said without the record; and the record after it.
 ghost use Rattle.std.specs.Prelude.{◌≡◌, false};
-ghost use Rattle.commands.specs.Verdict.{verdict, changed, kept, made};
+ghost use Rattle.commands.specs.Verdict.{verdict, changed, kept, made, turned};
 
 use crate::{Deed, Effect};
 use card::{Card, Held, Mode, Reply};
@@ -23,41 +23,80 @@ pub(crate) struct Verdict {
     pub(crate) hold: bool,
 }
 
-pub(crate) fn answer(reply: Reply) -> Verdict
-    ensures { result ≡ verdict Change.Nothing Effect.Leave reply false }
-{
-    Verdict {
-        change: Change::Nothing,
-        effect: Effect::Leave,
-        reply: reply,
-        hold: false,
+impl Verdict {
+    // An answer alone.
+    pub(crate) fn answer(reply: Reply) -> Verdict
+        ensures { result ≡ verdict Change.Nothing Effect.Leave reply false }
+    {
+        Verdict {
+            change: Change::Nothing,
+            effect: Effect::Leave,
+            reply,
+            hold: false,
+        }
+    }
+
+    // Silence, in another mode if the test holds.
+    #[tactic(auto, unfolding(crate::specs::Verdict::turned))]
+    pub(crate) fn turn_if(test: bool, mode: Mode) -> Verdict
+        ensures { result ≡ turned test mode }
+    {
+        let silent = Verdict::answer(Reply::Silence);
+        if test {
+            Verdict {
+                change: Change::InMode(mode),
+                ..silent
+            }
+        } else {
+            silent
+        }
+    }
+
+    // Success, at once or held.
+    pub(crate) fn succeed(hold: bool, change: Change, effect: Effect) -> Verdict
+        ensures { result ≡ verdict change effect Reply.Done hold }
+    {
+        Verdict {
+            change,
+            effect,
+            reply: Reply::Done,
+            hold,
+        }
+    }
+
+    // An error code, at once or held.
+    pub(crate) fn fail(hold: bool, code: u8) -> Verdict
+        ensures { result ≡ verdict Change.Nothing Effect.Leave (Reply.Error code) hold }
+    {
+        Verdict {
+            hold,
+            ..Verdict::answer(Reply::Error(code))
+        }
+    }
+
+    // The record after a verdict, with its effect and its answer.
+    #[tactic(auto, unfolding(crate::specs::Verdict::made))]
+    pub(crate) fn carry(self, card: Card) -> Deed
+        ensures { result ≡ made card self }
+    {
+        let card = changed(card, self.change);
+        if self.hold {
+            Deed {
+                card: card.holding(kept(self.reply)),
+                effect: self.effect,
+                reply: Reply::Silence,
+            }
+        } else {
+            Deed {
+                card,
+                effect: self.effect,
+                reply: self.reply,
+            }
+        }
     }
 }
 
-// Success, at once or held.
-pub(crate) fn succeed(hold: bool, change: Change, effect: Effect) -> Verdict
-    ensures { result ≡ verdict change effect Reply.Done hold }
-{
-    Verdict {
-        change: change,
-        effect: effect,
-        reply: Reply::Done,
-        hold: hold,
-    }
-}
-
-// An error code, at once or held.
-pub(crate) fn fail(hold: bool, code: u8) -> Verdict
-    ensures { result ≡ verdict Change.Nothing Effect.Leave (Reply.Error code) hold }
-{
-    Verdict {
-        change: Change::Nothing,
-        effect: Effect::Leave,
-        reply: Reply::Error(code),
-        hold: hold,
-    }
-}
-
+#[tactic(auto, unfolding(crate::specs::Verdict::changed))]
 fn changed(card: Card, change: Change) -> Card
     ensures { result ≡ changed card change }
 {
@@ -70,34 +109,12 @@ fn changed(card: Card, change: Change) -> Card
 }
 
 // The answer as it is held: an error code, else success.
+#[tactic(auto, unfolding(crate::specs::Verdict::kept))]
 fn kept(reply: Reply) -> Held
     ensures { result ≡ kept reply }
 {
     match reply {
         Reply::Error(code) => Held::Code(code),
         _ => Held::Success,
-    }
-}
-
-// The record after a verdict, with its effect and its answer.
-pub(crate) fn carry(card: Card, verdict: Verdict) -> Deed
-    ensures { result ≡ made card verdict }
-{
-    let change = verdict.change;
-    let effect = verdict.effect;
-    let reply = verdict.reply;
-    let next = changed(card, change);
-    if verdict.hold {
-        Deed {
-            card: next.holding(kept(reply)),
-            effect: effect,
-            reply: Reply::Silence,
-        }
-    } else {
-        Deed {
-            card: next,
-            effect: effect,
-            reply: reply,
-        }
     }
 }

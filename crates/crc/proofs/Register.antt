@@ -3,20 +3,20 @@
 use mathlib.Core.Path.{◌≡◌, refl}
 use mathlib.Core.Bool.{Bool, true, false, cond}
 use mathlib.Core.List.{List, [], ◌∷◌, ◌++◌}
-use Prim.Native.Nat.{ℕ, zero, suc, ◌+◌, ◌/◌, ◌%◌, ◌<◌}
-use native.Mathlib.Numerals.{add-one}
+use Prim.Native.Nat.{ℕ, zero, suc, ◌/◌, ◌%◌, ◌≤◌, ◌<◌}
 use native.Mathlib.Omega.{arith}
 use lib.Bits.{bit_xor, xor_lt}
 use lib.Dec.{eqb}
-use lib.ListN.{length, take, drop, get_or}
-use lib.Seq.{drop-cons}
-use Rattle.crc.specs.Check.{polynomial, shifted, shifts, taken, register}
+use lib.ListN.{length, take, get_or}
+use lib.Seq.{take-length}
+use Rattle.std.specs.List.{fold}
+use Rattle.crc.specs.Check.{preset, polynomial, shifted, shifts, taken, register}
 
--- the byte at place i goes in
-pub register_drop : (x : ℕ) (bs : List ℕ) (i : ℕ) → i < length bs
-    → register x (drop i bs) ≡ register (taken x (get_or bs i 0)) (drop (i + 1) bs)
+-- byte by byte
+pub register_folded : (x : ℕ) (bs : List ℕ) → fold taken x bs ≡ register x bs
 unfolding register
-register_drop x bs i h = rw (drop-cons bs i 0 h, add-one)
+register_folded x [] = refl
+register_folded x (b ∷ bs) = register_folded (taken x b) bs
 
 -- a message in two parts
 pub register_append : (x : ℕ) (m bs : List ℕ) → register x (m ++ bs) ≡ register (register x m) bs
@@ -48,3 +48,7 @@ unfolding register
 register_fits zero bs x bytes h = h
 register_fits (suc n) [] x bytes h = h
 register_fits (suc n) (b ∷ bs) x bytes h = register_fits n bs (taken x b) (λ i. bytes (suc i)) (taken_fits x b h (bytes 0))
+
+-- and a whole message from the preset on
+pub message_fits : (bs : List ℕ) → ((i : ℕ) → get_or bs i 0 < 256) → register preset bs ≤ 0xffff
+message_fits bs bytes = let fits = register_fits (length bs) bs preset bytes (omega arith) in omega (arith, rw take-length at fits)

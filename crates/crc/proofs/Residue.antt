@@ -7,12 +7,12 @@ use Prim.Native.Nat.{ℕ, zero, suc, ◌+◌, ◌-◌, ◌*◌, ◌/◌, ◌%◌
 use native.Mathlib.Decide.{ℕ_discrete}
 use native.Mathlib.Omega.{arith}
 use borrow.Author.Tests.{eq-eqb, ne_eqb, le-leb}
-use lib.Bits.{bit_xor, xor_lt, xor_self, xor_comm, xor_shr, xor_shifted}
+use lib.Bits.{bit_xor, xor_lt, xor_self, xor_assoc, xor_comm, xor_shr, xor_shifted}
 use lib.Dec.{eqb}
 use lib.ListN.{length, get_or, take, drop, take-append-drop}
 use Rattle.crc.specs.Check.{preset, polynomial, shifted, shifts, taken, register, check_of, is_check, is_sealed}
 use Rattle.crc.proofs.Register.{register_append, register_fits, shifted_fits}
-use Rattle.crc.proofs.Xor.{xor_assoc, xor_twice, xor_nothing, xor_complement}
+use Rattle.crc.proofs.Xor.{xor_twice, xor_nothing, xor_complement}
 use Rattle.crc.proofs.Linear.{shifts_over, shifts_down}
 use Rattle.crc.proofs.Seal.{check_joined, last_two}
 

@@ -6,7 +6,7 @@ use Prim.Native.Nat.{ℕ, suc, ◌+◌, ◌-◌, ◌*◌, ◌/◌, ◌%◌, ◌�
 use native.Mathlib.Decide.{ℕ_discrete}
 use native.Mathlib.Omega.{arith}
 use mathlib.Core.List.{List, [], ◌∷◌, ◌++◌}
-use borrow.Author.Tests.{eq-eqb, ne_eqb, eqb-true, le-leb, leb-true}
+use borrow.Author.Tests.{eq-eqb, ne_eqb, eqb-true, le-leb, lt-leb, leb-true}
 use lib.Dec.{leb, eqb}
 use lib.ListN.{length, get_or, take, drop, length-append, take-append-drop, drop_of_length-le}
 use lib.Seq.{take-append_seam, get_or-append_seam, get_or-append-add, drop-cons}
@@ -41,6 +41,20 @@ last_two m h =
     drop-cons m (length m - 2) 0 (omega arith)
     ∙ ap (λ (t : List ℕ). get_or m (length m - 2) 0 ∷ t)
     (drop-cons m (suc (length m - 2)) 0 (omega arith) ∙ rw (drop_of_length-le m {i = suc (suc (length m - 2))} (omega arith), next))
+
+-- sealed or not, by the last two bytes together and the check of the rest; and too short
+pub sealed_by_ends : (m : List ℕ) {rest sent : List ℕ} → ((i : ℕ) → get_or m i 0 < 256) → rest ≡ take (length m - 2) m → sent ≡ drop (length m - 2) m
+    → length rest + 2 ≡ length m → eqb (get_or sent 0 0 + get_or sent 1 0 * 256) (check_of rest) ≡ is_sealed m
+unfolding is_sealed
+sealed_by_ends m {rest} {sent} bytes r s n =
+    let low : ℕ = get_or m (length m - 2) 0 in
+    let high : ℕ = get_or m (length m - 1) 0 in
+    let number : low + high * 256 ≡ low + 256 * high = omega arith in
+    rw (s, last_two m (omega arith), r, le-leb 2 (length m) (omega arith)) (rw number (check_joined _ low high (bytes (length m - 2))))
+
+pub unsealed_short : (m : List ℕ) → length m < 2 → is_sealed m ≡ false
+unfolding is_sealed
+unsealed_short m h = rw (lt-leb 2 (length m) h) refl
 
 -- what was sealed is taken for sealed
 pub is_sealed_of_sealed : (m : List ℕ) → is_sealed (sealed m) ≡ true

@@ -1,35 +1,10 @@
--- Laws of exclusive or that the library lacks: it is associative, pairs can be exchanged, what is put over twice is gone, and a number over its complement
+-- Laws of exclusive or that the library lacks: pairs can be exchanged, what is put over twice is gone, and a number over its complement
 -- is all ones. By induction over the bits. Assumes nothing.
 use mathlib.Core.Path.{◌≡◌, refl, sym, ap, ap₂, ◌∙◌}
 use Prim.Native.Nat.{ℕ, zero, suc, ◌+◌, ◌-◌, ◌*◌, ◌/◌, ◌%◌, ◌^◌, ◌<◌}
 use native.Mathlib.Nat.{pow-suc}
 use native.Mathlib.Omega.{arith}
-use lib.Arith.{bin_ind}
-use lib.Bits.{bit_xor, differ, xor_step, xor_zero_r, xor_self, xor_comm, xor_shr, xor_mod}
-
--- three bits
-bits_assoc : (x y z : ℕ) → x < 2 → y < 2 → z < 2 → bit_xor (bit_xor x y) z ≡ bit_xor x (bit_xor y z)
-bits_assoc zero y z h k l = refl
-bits_assoc (suc zero) zero z h k l = refl
-bits_assoc (suc zero) (suc zero) zero h k l = refl
-bits_assoc (suc zero) (suc zero) (suc zero) h k l = refl
-bits_assoc (suc zero) (suc zero) (suc (suc z)) h k l = absurd (omega arith)
-bits_assoc (suc zero) (suc (suc y)) z h k l = absurd (omega arith)
-bits_assoc (suc (suc x)) y z h k l = absurd (omega arith)
-
--- two numbers with the same half and the same lowest bit
-same_number : (m n : ℕ) → m / 2 ≡ n / 2 → m % 2 ≡ n % 2 → m ≡ n
-same_number m n h k = omega arith
-
-pub xor_assoc : (a b c : ℕ) → bit_xor (bit_xor a b) c ≡ bit_xor a (bit_xor b c)
-xor_assoc =
-    bin_ind (λ (n : ℕ). (b c : ℕ) → bit_xor (bit_xor n b) c ≡ bit_xor n (bit_xor b c)) (λ b c. refl) (λ n below b c.
-    same_number (bit_xor (bit_xor n b) c) (bit_xor n (bit_xor b c))
-    (xor_shr (bit_xor n b) c 1 ∙ ap (λ (x : ℕ). bit_xor x (c / 2)) (xor_shr n b 1) ∙ below (b / 2) (c / 2)
-    ∙ ap (bit_xor (n / 2)) (sym (xor_shr b c 1)) ∙ sym (xor_shr n (bit_xor b c) 1))
-    (xor_mod (bit_xor n b) c 1 ∙ ap (λ (x : ℕ). bit_xor x (c % 2)) (xor_mod n b 1)
-    ∙ bits_assoc (n % 2) (b % 2) (c % 2) (omega arith) (omega arith) (omega arith)
-    ∙ ap (bit_xor (n % 2)) (sym (xor_mod b c 1)) ∙ sym (xor_mod n (bit_xor b c) 1)))
+use lib.Bits.{bit_xor, differ, xor_step, xor_zero_r, xor_self, xor_comm, xor_assoc}
 
 -- of two pairs, the second of the first and the first of the second change places
 pub xor_exchange : (a b c d : ℕ) → bit_xor (bit_xor a b) (bit_xor c d) ≡ bit_xor (bit_xor a c) (bit_xor b d)

@@ -3,7 +3,7 @@
 #![tactic(auto)]
 
 ghost use Rattle.std.specs.Prelude.{◌≡◌, ◌+◌, ◌*◌};
-ghost use Rattle.crc.specs.Check.{taken, check_of, is_check, is_sealed};
+ghost use Rattle.crc.specs.Check.{taken, check_of, is_sealed};
 
 mod table;
 
@@ -16,8 +16,8 @@ const PRESET: u32 = 0xffff;
 fn take(x: u32, b: u8) -> u32
     ensures { result ≡ taken x b }
 {
-    let y = x ^ (b as u32);
-    let low = entry(256 + y % 256) as u32;
+    let y = x ^ u32::from(b);
+    let low = u32::from(entry(256 + y % 256));
     (y >> 8) ^ low
 }
 
@@ -25,38 +25,16 @@ fn take(x: u32, b: u8) -> u32
 pub fn check(bytes: &[u8]) -> u16
     ensures { result ≡ check_of bytes.now }
 {
-    let mut x = PRESET;
-    let mut i = 0;
-    while i < bytes.len() {
-        x = take(x, bytes[i]);
-        i += 1;
-    }
+    let x = bytes.iter().fold(PRESET, |x, byte| take(x, *byte));
     (0xffff - x) as u16
-}
-
-// Two bytes as one number, low byte first.
-fn joined(low: u8, high: u8) -> u16
-    ensures { result ≡ low + 256 * high }
-{
-    (low as u16) + 256 * (high as u16)
-}
-
-// Whether two bytes are the check x, low byte first.
-fn is_check(x: u16, low: u8, high: u8) -> bool
-    ensures { result ≡ is_check x low high }
-{
-    joined(low, high) == x
 }
 
 // Whether the last two bytes of a message are the check of the rest, low byte first.
 pub fn is_sealed(message: &[u8]) -> bool
     ensures { result ≡ is_sealed message.now }
 {
-    let n = message.len();
-    if n < 2 {
-        return false;
+    match message.split_last_chunk::<2>() {
+        Some((rest, sent)) => u16::from_le_bytes(*sent) == check(rest),
+        None => false,
     }
-    let rest = n - 2;
-    let x = check(&message[..rest]);
-    is_check(x, message[rest], message[n - 1])
 }

@@ -1,17 +1,20 @@
 -- Laws of digits: their values and bytes range by range, a form byte by byte, and the number that digits stand for.
 -- Assumes nothing.
-use mathlib.Core.Path.{◌≡◌, refl, sym, ap, ◌∙◌}
-use mathlib.Core.Bool.{Bool, true, false, ◌&&◌, and-eq-true_iff}
+use mathlib.Core.Path.{◌≡◌, refl, sym, ap}
+use mathlib.Core.Bool.{Bool, true, false, cond, ◌&&◌}
 use mathlib.Core.List.{List, [], ◌∷◌}
 use Prim.Native.Nat.{ℕ, zero, suc, ◌+◌, ◌-◌, ◌*◌, ◌/◌, ◌%◌, ◌^◌, ◌≤◌, ◌<◌}
 use native.Mathlib.Nat.{pow-succ'}
 use native.Mathlib.Numerals.{add-one}
 use native.Mathlib.Omega.{arith}
+use native.Mathlib.Decide.{dec_lt}
 use borrow.Author.Tests.{lt-ltb, le-ltb, le-leb, lt-leb, eq-eqb, ne_eqb}
+use Rattle.std.specs.Prelude.{Some, None, is_some, unwrap_or}
+use Rattle.std.proofs.lemmas.Bool.Decides.{nat_tests}
+use Rattle.std.specs.List.{list_all, zip}
 use lib.Dec.{eqb, ltb}
-use lib.ListN.{length, drop, get_or, length-append}
-use lib.Seq.{drop-cons, drop-length}
-use Rattle.digits.specs.Digits.{digit_of, fits, has_form, digits_at, number_at, digit, hex_digits}
+use lib.ListN.{length, get_or, get_or-eq_default, length-append}
+use Rattle.digits.specs.Digits.{digit_of, digit_value, is_digit, fits, has_form, digits_at, number_at, digit, hex_digits}
 
 -- ---- a digit's value, and its byte
 
@@ -35,6 +38,55 @@ pub digit_high : (b : ℕ) → 0x46 < b → 16 ≡ digit_of b
 unfolding digit_of
 digit_high b h = rw (le-leb 0x30 b (omega arith), lt-leb b 0x39 (omega arith), le-leb 0x41 b (omega arith), lt-leb b 0x46 h)
 
+-- a byte's digit, as an option and as a number
+digit_most : (b : ℕ) → digit_of b ≤ 16
+unfolding digit_of
+digit_most b = grind (arith, nat_tests)
+
+pub value_some : (b : ℕ) → is_some (digit_value b) ≡ is_digit b
+unfolding digit_value
+value_some b = go (ltb (digit_of b) 16)
+  where
+    go : (t : Bool) → is_some (cond t (Some (digit_of b)) None) ≡ t
+    go true = refl
+    go false = refl
+
+pub value_or_zero : (b : ℕ) → unwrap_or (digit_value b) 0 ≡ digit_of b % 16
+unfolding digit_value
+value_or_zero b = go (dec_lt (digit_of b) 16)
+  where
+    go : Dec (digit_of b < 16) → unwrap_or (cond (ltb (digit_of b) 16) (Some (digit_of b)) None) 0 ≡ digit_of b % 16
+    go (yes small) = rw (lt-ltb (digit_of b) 16 small) (omega arith)
+    go (no none) = rw (le-ltb (digit_of b) 16 (omega arith)) (omega (arith, digit_most b))
+
+pub value_is : (b d : ℕ) → digit_value b ≡ Some d → (d ≡ digit_of b) × (d < 16)
+unfolding digit_value
+value_is b d = go (dec_lt (digit_of b) 16)
+  where
+    go : Dec (digit_of b < 16) → cond (ltb (digit_of b) 16) (Some (digit_of b)) None ≡ Some d → (d ≡ digit_of b) × (d < 16)
+    go (yes small) e =
+        let same : Some (digit_of b) ≡ Some d = rw (lt-ltb (digit_of b) 16 small) at e in
+        let is : digit_of b ≡ d = cc in
+        (sym is, omega arith)
+    go (no large) e =
+        let never : None ≡ Some d = rw (le-ltb (digit_of b) 16 (omega arith)) at e in
+        cc
+
+pub value_none : (b : ℕ) → digit_value b ≡ None → 16 ≤ digit_of b
+unfolding digit_value
+value_none b = go (dec_lt (digit_of b) 16)
+  where
+    go : Dec (digit_of b < 16) → cond (ltb (digit_of b) 16) (Some (digit_of b)) None ≡ None → 16 ≤ digit_of b
+    go (yes small) e =
+        let never : Some (digit_of b) ≡ None = rw (lt-ltb (digit_of b) 16 small) at e in
+        cc
+    go (no large) e = omega arith
+
+-- past the end there is none
+pub value_past : (text : List ℕ) (n : ℕ) → length text ≤ n → 0 ≡ digit_of (get_or text n 0) % 16
+unfolding digit_of
+value_past text n h = rw (get_or-eq_default text 0 {n = n} h)
+
 pub digit_decimal : (n : ℕ) → n % 16 < 10 → 0x30 + n % 16 ≡ digit n
 unfolding digit
 digit_decimal n h = rw (lt-ltb (n % 16) 10 h)
@@ -50,9 +102,9 @@ length_hex_digits (suc n) u = rw (length-append, length_hex_digits n (u / 16)) (
 
 -- ---- a form
 
-pub fits_digit : (b f d : ℕ) → f ≡ 0x58 → d ≡ digit_of b → ltb d 16 ≡ fits b f
+pub fits_digit : (b f : ℕ) → f ≡ 0x58 → is_digit b ≡ fits b f
 unfolding fits
-fits_digit b f d h is = rw (eq-eqb f 0x58 h, is)
+fits_digit b f h = rw (eq-eqb f 0x58 h)
 
 pub fits_itself : (b f : ℕ) → (f ≡ 0x58 → ⊥) → eqb b f ≡ fits b f
 unfolding fits
@@ -70,28 +122,19 @@ form_length (b ∷ bs) (f ∷ fs) h = rw (← (form_length bs fs (λ e. h (ap su
     and_false true = refl
     and_false false = refl
 
-pub form_same : (text form : List ℕ) → has_form text form ≡ true → length text ≡ length form
+-- byte for byte
+pub form_pairs : (text form : List ℕ) → length text ≡ length form → list_all (λ p. fits p.0 p.1) (zip text form) ≡ has_form text form
 unfolding has_form
-form_same [] [] h = refl
-form_same [] (f ∷ fs) h = let never : ◌≡◌ {A = ℕ} 0 1 = cc in absurd (omega arith)
-form_same (b ∷ bs) [] h = let never : ◌≡◌ {A = ℕ} 0 1 = cc in absurd (omega arith)
-form_same (b ∷ bs) (f ∷ fs) h = ap suc (form_same bs fs ((and-eq-true_iff (fits b f) (has_form bs fs)).0 h).1)
-
--- one byte of both
-pub form_cons : (text form : List ℕ) (i : ℕ) → i < length text → length text ≡ length form
-    → has_form (drop i text) (drop i form) ≡ (fits (get_or text i 0) (get_or form i 0) && has_form (drop (i + 1) text) (drop (i + 1) form))
-unfolding has_form
-form_cons text form i h same = rw (add-one i, drop-cons text i 0 h, drop-cons form i 0 (omega arith))
-
-pub form_end : (text form : List ℕ) (i : ℕ) → i ≡ length text → length text ≡ length form → has_form (drop i text) (drop i form) ≡ true
-unfolding has_form
-form_end text form i h same = rw (h ∙ same, drop-length form, ← same, drop-length text)
+form_pairs [] [] h = refl
+form_pairs [] (f ∷ fs) h = absurd (omega arith)
+form_pairs (b ∷ bs) [] h = absurd (omega arith)
+form_pairs (b ∷ bs) (f ∷ fs) h = ap (λ t. fits b f && t) (form_pairs bs fs (omega arith))
 
 -- ---- the number
 
 -- one digit more, shifted in
-pub number_suc : (text : List ℕ) (at i n d : ℕ) → n ≡ number_at text at i → d ≡ digit_of (get_or text (at + i) 0)
-    → (n * 2 ^ 4) % 2 ^ 64 + d % 16 ≡ number_at text at (i + 1)
+pub number_suc : (text : List ℕ) (at i n d : ℕ) → n ≡ number_at text at i → d ≡ digit_of (get_or text (at + i) 0) % 16
+    → (n * 2 ^ 4) % 2 ^ 64 + d ≡ number_at text at (i + 1)
 unfolding number_at digits_at
 number_suc text at i n d h is = rw (h, is, add-one i) (omega arith)
 

@@ -2,20 +2,20 @@
 -- By the one test of the definitions. Assumes nothing.
 use mathlib.Core.Path.{◌≡◌, refl, sym, ap, ◌∙◌}
 use mathlib.Core.List.{List, [], ◌∷◌, ◌++◌, append_assoc}
-use Prim.Native.Nat.{ℕ, suc, ◌+◌, ◌/◌, ◌^◌, ◌≤◌, ◌<◌}
+use Prim.Native.Nat.{ℕ, suc, ◌+◌, ◌/◌, ◌≤◌, ◌<◌}
 use native.Mathlib.Numerals.{add-one}
 use native.Mathlib.Omega.{arith}
-use borrow.Author.Rules.{sfits_of}
 use borrow.Author.Tests.{le-leb, lt-leb}
-use lib.Dec.{T}
-use lib.IntN.{ℤ, pos, nat_abs}
-use lib.Signed.{non_neg, mag}
+use borrow.Rule.Slice.PartMut.{put_mid}
+use lib.IntN.{ℤ}
 use lib.ListN.{length, drop, set, length-append, length-set}
-use lib.Seq.{drop-cons, get_or-set_same, take-set-le, drop-set-lt, append_snoc}
-use mir.Syntax.{w64}
-use mir.Val.{Fits, to_z, of_z}
-use mir.ValLaws.{to_z-of_z}
-use Rattle.lent.specs.Lent.{placed, refused}
+use lib.Seq.{drop-cons, drop-drop, get_or-set_same, take-set-le, drop-set-lt, append_snoc}
+use Rattle.std.specs.Prelude.{Result, Ok, Err, IsOk}
+use Rattle.refusals.specs.declared.Refusal.{Refusal}
+use Rattle.refusals.specs.declared.Refusal.TheVariants.{Room}
+use Rattle.refusals.specs.Number.{number, number_back}
+use Rattle.refusals.proofs.Numbers.{number_back_tells}
+use Rattle.lent.specs.Lent.{placed}
 use Rattle.lent.specs.Puts.{PutsAt}
 use Rattle.lent.proofs.Over.{placed_none}
 use Rattle.digits.specs.Digits.{digit, hex_digits}
@@ -24,18 +24,24 @@ use Rattle.digits.proofs.Digits.{length_hex_digits}
 
 -- ---- the ways out
 
-pub put_refused : (bytes text : List ℕ) (at n : ℕ) → length bytes ≡ n → length text < at + n → PutsText bytes text at (refused 8) text
-unfolding put_answer put_leaves
-put_refused bytes text at n is h =
+pub put_refused : (bytes text : List ℕ) (at n : ℕ) (r : Result ℕ Refusal) → length bytes ≡ n → r ≡ Err Room → length text < at + n
+    → PutsText bytes text at (number_back r) text
+unfolding put_answer put_leaves number_back number
+put_refused bytes text at n r is err h =
     let short = lt-leb (at + length bytes) (length text) (omega arith) in
-    record { answer = rw short; leaves = rw short }
+    record { answer = rw (err, short); leaves = rw short }
 
-pub put_served : (bytes text left : List ℕ) (at n : ℕ) → length bytes ≡ n → at + n ≤ length text → left ≡ placed at bytes text
-    → PutsText bytes text at (pos (at + n)) left
-unfolding put_answer put_leaves
-put_served bytes text left at n is h p =
+pub put_served : (bytes text left : List ℕ) (at n end : ℕ) → length bytes ≡ n → end ≡ at + n → end ≤ length text → left ≡ placed at bytes text
+    → PutsText bytes text at (number_back (Ok end)) left
+unfolding put_answer put_leaves number_back
+put_served bytes text left at n end is here h p =
     let room = le-leb (at + length bytes) (length text) (omega arith) in
-    record { answer = rw (room, is); leaves = rw (room, p) }
+    record { answer = rw (room, is, here); leaves = rw (room, p) }
+
+-- a part that was written whole
+pub part_placed : (bytes text : List ℕ) (at k : ℕ) → k ≡ length bytes → put_mid at k text bytes ≡ placed at bytes text
+unfolding placed
+part_placed bytes text at k is = rw (is, drop-drop, append_assoc)
 
 -- ---- where there is room
 
@@ -44,23 +50,20 @@ pub put_leaves_lem : {bytes text left : List ℕ} {at : ℕ} {r : ℤ} → PutsT
 unfolding put_leaves
 put_leaves_lem {bytes} {text} {left} {at} p h = p.leaves ∙ rw (le-leb (at + length bytes) (length text) h) refl
 
--- the answer r, kept in an i64 and read back
-module _ {bytes text left : List ℕ} {at : ℕ} {r : ℤ} (ok : mag r < 2 ^ 63) (p : PutsText bytes text at r left) (h : at + length bytes ≤ length text) where
-  answer : r ≡ pos (at + length bytes)
-  unfolding put_answer
-  answer = p.answer ∙ rw (le-leb (at + length bytes) (length text) h) refl
+-- the result is the place after them
+pub put_is_ok : {bytes text left : List ℕ} {at : ℕ} (r : Result ℕ Refusal) → PutsText bytes text at (number_back r) left → at + length bytes ≤ length text
+    → r ≡ Ok (at + length bytes)
+unfolding put_answer number_back
+put_is_ok {bytes} {text} {left} {at} r p h =
+    number_back_tells r (Ok (at + length bytes)) (p.answer ∙ rw (le-leb (at + length bytes) (length text) h) refl)
 
-  read_back : to_z w64 (of_z w64 r) ≡ pos (at + length bytes)
-  read_back = to_z-of_z w64 r (sfits_of ok) ∙ answer
+-- for a call whose `Ok` was unwrapped
+pub put_can : {bytes text left : List ℕ} {at : ℕ} (r : Result ℕ Refusal) → PutsText bytes text at (number_back r) left → at + length bytes ≤ length text → IsOk r
+put_can {bytes} {at = at} r p h = rw (put_is_ok r p h)
 
-  -- and cast to a usize
-  pub put_cast : T (non_neg (to_z w64 (of_z w64 r))) × Fits w64 (nat_abs (to_z w64 (of_z w64 r)))
-  put_cast =
-      let few : mag (pos (at + length bytes)) < 2 ^ 63 = rw answer at ok in
-      rw read_back (tt, omega arith)
-
-  pub put_at : PutsAt at bytes text (nat_abs (to_z w64 (of_z w64 r))) left
-  put_at = record { next = ap nat_abs read_back; leaves = put_leaves_lem p h }
+pub put_at : {bytes text left : List ℕ} {at : ℕ} (r : Result ℕ Refusal) (end : ℕ) → PutsText bytes text at (number_back r) left
+    → at + length bytes ≤ length text → r ≡ Ok end → PutsAt at bytes text end left
+put_at {bytes} {at = at} r end p h is = let all = put_is_ok r p h in record { next = cc; leaves = put_leaves_lem p h }
 
 -- ---- stores, the last byte first
 

@@ -1,9 +1,13 @@
 -- 01, What is built: "Numbers in frames are hexadecimal."; Bench: "upper-case hex digits".
-use Rattle.std.specs.Prelude.{ℕ, zero, suc, ◌+◌, ◌-◌, ◌*◌, ◌/◌, ◌%◌, ◌^◌, Bool, true, false, cond, ◌&&◌, List, [], ◌∷◌, ◌++◌, eqb, leb, ltb, get_or}
+use Rattle.std.specs.Prelude.{ℕ, zero, suc, ◌+◌, ◌-◌, ◌*◌, ◌/◌, ◌%◌, ◌^◌, Bool, true, false, cond, ◌&&◌, List, [], ◌∷◌, ◌++◌, eqb, leb, ltb, get_or, Option, Some, None}
 
 -- the value of a digit 0 to 9 or A to F, or 16 for any other byte
 unfoldable pub digit_of : ℕ → ℕ
 digit_of b = cond (leb 0x30 b && leb b 0x39) (b - 0x30) (cond (leb 0x41 b && leb b 0x46) (b - 0x37) 16)
+
+-- the same for a call that says by an option whether there is one
+unfoldable pub digit_value : ℕ → Option ℕ
+digit_value b = cond (ltb (digit_of b) 16) (Some (digit_of b)) None
 
 abbrev pub is_digit : ℕ → Bool
 is_digit b = ltb (digit_of b) 16

@@ -104,7 +104,7 @@ unfolding Stays Same hearing
 stays_heard w kind bytes list =
     let n : ℕ = refusal w (length list) in
     heard_either w (eqb n 0) _ _
-    (λ e. stays_after w (judged w kind bytes) (has_place w) (served_of_refusal w (length list) n refl (eqb-true n 0 e)).runs) (λ f. (refl, refl))
+    (λ e. stays_after w (judged w kind bytes) (has_place w) (served_of_refusal w (length list) (eqb-true n 0 e)).runs) (λ f. (refl, refl))
 
 -- a slot more is played last
 pub played_last : (n : ℕ) (p : Play) → played_for (suc n) p ≡ slot_played (played_for n p)

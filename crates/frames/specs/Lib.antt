@@ -1,4 +1,3 @@
 pub mod Flags
 pub mod Field
 pub mod Frame
-pub mod Steps

@@ -1,13 +1,13 @@
 -- What is left to read of an input, from a place on: a byte more, the end, a wrong line; and no more than 100 lines are counted.
 -- By the ways of the definitions. Assumes nothing.
-use mathlib.Core.Path.{◌≡◌, refl, sym, ◌∙◌}
-use mathlib.Core.Bool.{Bool, true, false, cond, ◌&&◌, and-eq-true_iff}
+use mathlib.Core.Path.{◌≡◌, refl}
+use mathlib.Core.Bool.{Bool, true, false, cond, ◌&&◌}
 use Prim.Native.Nat.{ℕ, zero, suc, ◌+◌, ◌≤◌, ◌<◌}
 use native.Mathlib.Numerals.{add-one}
 use native.Mathlib.Decide.{dec_lt}
 use native.Mathlib.Omega.{arith}
 use mathlib.Core.List.{List, [], ◌∷◌}
-use borrow.Author.Tests.{ltb-true, ltb-false, eqb-true, eqb-false, le-ltb, eq-eqb, ne_eqb}
+use borrow.Author.Tests.{le-ltb, eq-eqb, ne_eqb}
 use lib.Dec.{ltb, eqb}
 use lib.ListN.{length, drop, get_or}
 use lib.Seq.{drop-cons, drop-nil}
@@ -51,29 +51,13 @@ drop_past [] i h = drop-nil i
 drop_past (x ∷ l) zero h = absurd (omega arith)
 drop_past (x ∷ l) (suc i) h = drop_past l i (omega arith)
 
-end_left : (s : Lines) (input : List ℕ) (i : ℕ) → length input ≤ i → closed s ≡ read_from s (drop i input)
+pub end_left : (s : Lines) (input : List ℕ) (i : ℕ) → length input ≤ i → closed s ≡ read_from s (drop i input)
 unfolding read_from
 end_left s input i h = rw (drop_past input i h)
 
--- there is a byte more, and no line was wrong
-abbrev pub goes_on : Lines → List ℕ → ℕ → Bool
-goes_on s input i = ltb i (length input) && eqb s.bad 0
-
-pub goes_on_lem : (s : Lines) (input : List ℕ) (i : ℕ) → goes_on s input i ≡ true → (i < length input) × (s.bad ≡ 0)
-goes_on_lem s input i on =
-    let both = (and-eq-true_iff (ltb i (length input)) _).0 on in
-    (ltb-true i (length input) both.0, eqb-true s.bad 0 both.1)
-
--- else nothing is left
-pub none_left : (s : Lines) (input : List ℕ) (i : ℕ) → goes_on s input i ≡ false → closed s ≡ read_from s (drop i input)
-none_left s input i = by (ltb i (length input)) refl (eqb s.bad 0) refl
-  where
-    by : (t : Bool) → ltb i (length input) ≡ t → (u : Bool) → eqb s.bad 0 ≡ u → (t && u) ≡ false → closed s ≡ read_from s (drop i input)
-    by true e true f g = let never : ◌≡◌ {A = ℕ} 0 1 = cc in absurd (omega arith)
-    by true e false f g =
-        let bad : s.bad ≡ 0 → ⊥ = eqb-false s.bad 0 f in
-        sym (closed_shut s (rw f)) ∙ sym (read_stopped s (drop i input) bad)
-    by false e u f g = end_left s input i (ltb-false i (length input) e)
+pub fine_fresh : fresh_lines.bad ≡ 0
+unfolding fresh_lines
+fine_fresh = refl
 
 -- a line counted is one of 100
 pub count_fresh : fresh_lines.count ≤ 100

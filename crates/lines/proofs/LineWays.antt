@@ -1,10 +1,10 @@
 -- The ways out of the functions that read lines, by the tests of the definitions: a line that ends or is longer, a byte, and the end.
 -- Assumes nothing.
-use mathlib.Core.Path.{◌≡◌, refl, ap, ◌∙◌}
+use mathlib.Core.Path.{◌≡◌, refl}
 use mathlib.Core.Bool.{Bool, true, false, cond, not, ◌&&◌, and-eq-true_iff}
-use Prim.Native.Nat.{ℕ, ◌<◌}
+use Prim.Native.Nat.{ℕ, ◌≤◌, ◌<◌}
 use native.Mathlib.Omega.{arith}
-use borrow.Author.Tests.{ltb-true, eqb-true, eqb-false, not-true, eq-eqb, ne_eqb}
+use borrow.Author.Tests.{ltb-true, lt-ltb, le-ltb, not-true, eq-eqb, ne_eqb}
 use lib.Dec.{ltb, eqb}
 use Rattle.digits.specs.Digits.{digit_of}
 use Rattle.lines.specs.declared.Lines.{Lines}
@@ -57,39 +57,31 @@ pub stepped_longer : (s : Lines) (b : ℕ) → (b ≡ 0x0a → ⊥) → longer s
 unfolding stepped
 stepped_longer s b h = rw (ne_eqb b 0x0a h)
 
--- a byte that ends a UID
-abbrev pub ends_uid : Lines → ℕ → Bool
-ends_uid s b = eqb b 0x0a && is_whole s
+-- line 101, a 17th byte, or no digit
+pub longer_101 : (s : Lines) (b : ℕ) → 100 ≤ s.count → wrong s ≡ longer s b
+unfolding longer
+longer_101 s b h = rw (le-ltb s.count 100 h)
 
-pub uid_count : (s : Lines) (b : ℕ) → ends_uid s b ≡ true → s.count < 100
-uid_count s b on = whole_count s ((and-eq-true_iff (eqb b 0x0a) (is_whole s)).0 on).1
+pub longer_17 : (s : Lines) (b : ℕ) → s.count < 100 → 16 ≤ s.digits → wrong s ≡ longer s b
+unfolding longer
+longer_17 s b h k = rw (lt-ltb s.count 100 h, le-ltb s.digits 16 k)
 
-pub stepped_uid : (s : Lines) (b : ℕ) → ends_uid s b ≡ true → listed s ≡ stepped s b
-stepped_uid s b on =
-    let both = (and-eq-true_iff (eqb b 0x0a) (is_whole s)).0 on in
-    ended_uid s both.1 ∙ stepped_end s b (eqb-true b 0x0a both.0)
-
--- the byte 0A is no digit
-pub stepped_digit : (s : Lines) (b d : ℕ) → d ≡ digit_of b → fits s d ≡ true → pushed s d ≡ stepped s b
-unfolding digit_of
-stepped_digit s b d is on =
-    let digit = (fits_digits s d on).1 in
-    longer_digit s b d is on ∙ stepped_longer s b (λ e. let none : d ≡ 16 = is ∙ ap digit_of e in absurd (omega (arith, digit, none)))
-
-pub stepped_wrong : (s : Lines) (b d : ℕ) → d ≡ digit_of b → ends_uid s b ≡ false → fits s d ≡ false → wrong s ≡ stepped s b
-stepped_wrong s b d is off none = by (eqb b 0x0a) refl off
+pub longer_other : (s : Lines) (b : ℕ) → 16 ≤ digit_of b → wrong s ≡ longer s b
+unfolding longer
+longer_other s b h = rw (le-ltb (digit_of b) 16 h) (by (ltb s.count 100) (ltb s.digits 16))
   where
-    by : (t : Bool) → eqb b 0x0a ≡ t → (t && is_whole s) ≡ false → wrong s ≡ stepped s b
-    by true e f = ended_wrong s f ∙ stepped_end s b (eqb-true b 0x0a e)
-    by false e f = longer_wrong s b d is none ∙ stepped_longer s b (eqb-false b 0x0a e)
+    by : (t u : Bool) → wrong s ≡ cond (t && (u && false)) (pushed s (digit_of b)) (wrong s)
+    by true true = refl
+    by true false = refl
+    by false u = refl
 
 -- ---- the end
 
 abbrev pub is_open : Lines → Bool
 is_open s = eqb s.bad 0 && not (eqb s.digits 0)
 
-pub closed_open : (s : Lines) → is_open s ≡ true → stepped s 0x0a ≡ closed s
-unfolding stepped closed
+pub closed_open : (s : Lines) → is_open s ≡ true → line_ended s ≡ closed s
+unfolding closed
 closed_open s on =
     let both = (and-eq-true_iff (eqb s.bad 0) _).0 on in
     let begun : eqb s.digits 0 ≡ false = not-true (eqb s.digits 0) both.1 in

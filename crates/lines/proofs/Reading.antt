@@ -98,7 +98,7 @@ found_closed s line k = go (ℕ_discrete (length line) 0)
     go (no e) =
         let begun : s.digits ≡ 0 → ⊥ = λ z. e (sym k.digits ∙ z) in
         let begins : is_open s ≡ true = rw (eq-eqb s.bad 0 k.fine, ne_eqb s.digits 0 begun) in
-        let last : closed s ≡ closed (line_ended s) = sym (closed_open s begins) ∙ sym (stepped_end s 0x0a refl) ∙ ended_closed s in
+        let last : closed s ≡ closed (line_ended s) = sym (closed_open s begins) ∙ ended_closed s in
         rw (ne_eqb (length line) 0 e, last)
         (found_ended s line [] k (λ h. found_between (listed s) [] (reading_listed s line k h) refl))
 

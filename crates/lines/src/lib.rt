@@ -1,13 +1,13 @@
 // The lines of an input: a UID each, read byte by byte up to the first wrong one.
 #![tactic(auto)]
 
-ghost use Rattle.std.specs.Prelude.{◌≡◌, ◌≤◌, ◌<◌};
+ghost use Rattle.std.specs.Prelude.{◌≡◌, ◌≤◌};
 ghost use Rattle.lines.specs.Input.{begins_e0};
-ghost use Rattle.lines.specs.Lines.{fresh_lines, wrong, stepped, read_from};
+ghost use Rattle.lines.specs.Lines.{fresh_lines, wrong, line_ended, stepped, read_from};
 
 use digits::digit_of;
 
-// The UIDs of the lines so far, how many bytes the line that has begun has, the number that they stand for, and the wrong line or 0.
+// The UIDs of the lines so far, how many bytes the line that has begun has, the number that they stand for, and the wrong line, or 0 as in `bad_line`.
 #[derive(Clone, Copy)]
 pub struct Lines {
     pub uids: [u64; 100],
@@ -17,25 +17,63 @@ pub struct Lines {
     pub bad: usize,
 }
 
-fn fresh() -> Lines
-    ensures { result ≡ fresh_lines }
-{
-    Lines {
-        uids: [0; 100],
-        count: 0,
-        digits: 0,
-        number: 0,
-        bad: 0,
+impl Lines {
+    #[tactic(auto, unfolding(crate::specs::Lines::no_lines, crate::specs::Lines::fresh_lines))]
+    fn fresh() -> Lines
+        ensures { result ≡ fresh_lines }
+    {
+        Lines {
+            uids: [0; 100],
+            count: 0,
+            digits: 0,
+            number: 0,
+            bad: 0,
+        }
     }
-}
 
-// The line that has begun is wrong.
-fn wrong(mut lines: Lines) -> Lines
-    requires { lines.count ≤ 100 }
-    ensures { result ≡ wrong lines }
-{
-    lines.bad = lines.count + 1;
-    lines
+    // A byte of the input: it ends the line that has begun, or is a digit more of it, or the line is wrong.
+    fn take(&mut self, b: u8)
+        requires { self.old.count ≤ 100 }
+        ensures { self.new ≡ stepped self.old b }
+    {
+        if b == b'\n' {
+            self.end();
+            return;
+        }
+        match digit_of(b) {
+            Some(d) if self.count < 100 && self.digits < 16 => {
+                self.digits += 1;
+                self.number = (self.number << 4) + u64::from(d);
+                self.bad = 0;
+            }
+            _ => self.wrong(),
+        }
+    }
+
+    // The line that has begun ends: it is a UID, of 16 digits that begin with E0, or wrong.
+    fn end(&mut self)
+        requires { self.old.count ≤ 100 }
+        ensures { self.new ≡ line_ended self.old }
+    {
+        if self.count < 100 && self.digits == 16 && begins_e0(self.number) {
+            self.uids[self.count] = self.number;
+            self.count += 1;
+            self.digits = 0;
+            self.number = 0;
+            self.bad = 0;
+        } else {
+            self.wrong();
+        }
+    }
+
+    // The line that has begun is wrong.
+    #[tactic(auto, unfolding(crate::specs::Lines::wrong))]
+    fn wrong(&mut self)
+        requires { self.old.count ≤ 100 }
+        ensures { self.new ≡ wrong self.old }
+    {
+        self.bad = self.count + 1;
+    }
 }
 
 // "All UIDs begin with E0": the first two of 16 digits.
@@ -45,45 +83,19 @@ fn begins_e0(number: u64) -> bool
     number >> 56 == 0xE0
 }
 
-// A byte of the input: it ends a line that is a UID, or is a digit more, or the line is wrong.
-// A UID has 16 digits and begins with E0. The byte 0A is no digit.
-fn take(mut lines: Lines, b: u8) -> Lines
-    requires { lines.count ≤ 100 }
-    ensures { result ≡ stepped lines b }
-{
-    let at = lines.count;
-    if (b == b'\n') & ((at < 100) & ((lines.digits == 16) & begins_e0(lines.number))) {
-        let mut uids = lines.uids;
-        uids[at] = lines.number;
-        lines.uids = uids;
-        lines.count = at + 1;
-        lines.digits = 0;
-        lines.number = 0;
-        lines.bad = 0;
-        return lines;
-    }
-    let d = digit_of(b);
-    if (at < 100) & ((lines.digits < 16) & (d < 16)) {
-        lines.digits += 1;
-        lines.number = (lines.number << 4) + d;
-        lines.bad = 0;
-        return lines;
-    }
-    wrong(lines)
-}
-
 // All lines up to the first wrong one. The end of the input ends a line that has begun.
 pub fn read(input: &[u8]) -> Lines
     ensures { result ≡ read_from fresh_lines input.now }
 {
-    let mut lines = fresh();
-    let mut i = 0;
-    while (i < input.len()) & (lines.bad == 0) {
-        lines = take(lines, input[i]);
-        i += 1;
+    let mut lines = Lines::fresh();
+    for b in input {
+        lines.take(*b);
+        if lines.bad != 0 {
+            return lines;
+        }
     }
-    if (lines.bad == 0) & (lines.digits != 0) {
-        return take(lines, b'\n');
+    if lines.digits != 0 {
+        lines.end();
     }
     lines
 }

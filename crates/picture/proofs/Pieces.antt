@@ -14,14 +14,18 @@ use Rattle.picture.specs.Drawn.{round_shown, tail_shown}
 
 -- ---- a round's number
 
-pub round_1 : (n : ℕ) {a : ℕ} → n < 10 → a ≡ digit n → 0x20 ∷ 0x20 ∷ 0x20 ∷ 0x20 ∷ a ∷ 0x20 ∷ [] ≡ round_shown n ++ 0x20 ∷ []
+pub round_1 : (n : ℕ) {a : ℕ} → n < 10 → a ≡ digit (n % 10) → 0x20 ∷ 0x20 ∷ 0x20 ∷ 0x20 ∷ a ∷ 0x20 ∷ [] ≡ round_shown n ++ 0x20 ∷ []
 unfolding round_shown
-round_1 n h p = rw (decimal_one n h, p) refl
+round_1 n h p =
+    let same : n % 10 ≡ n = omega arith in
+    rw (decimal_one n h, p, same) refl
 
-pub round_2 : (n : ℕ) {a b : ℕ} → 10 ≤ n → n < 100 → a ≡ digit (n / 10) → b ≡ digit (n % 10)
+pub round_2 : (n : ℕ) {a b : ℕ} → 10 ≤ n → n < 100 → a ≡ digit (n / 10 % 10) → b ≡ digit (n % 10)
     → 0x20 ∷ 0x20 ∷ 0x20 ∷ a ∷ b ∷ 0x20 ∷ [] ≡ round_shown n ++ 0x20 ∷ []
 unfolding round_shown
-round_2 n h k p q = rw (decimal_more n h, decimal_one (n / 10) (omega arith), p, q) refl
+round_2 n h k p q =
+    let same : n / 10 % 10 ≡ n / 10 = omega arith in
+    rw (decimal_more n h, decimal_one (n / 10) (omega arith), p, same, q) refl
 
 pub round_3 : (n : ℕ) {a b c : ℕ} → 100 ≤ n → n < 1000 → a ≡ digit (n / 100) → b ≡ digit (n / 10 % 10) → c ≡ digit (n % 10)
     → 0x20 ∷ 0x20 ∷ a ∷ b ∷ c ∷ 0x20 ∷ [] ≡ round_shown n ++ 0x20 ∷ []

@@ -1,4 +1,4 @@
--- What the bench prints into a part of the room stands in the room, and its number counts on from there. By the laws of lists and of i64.
+-- What the bench prints into a part of the room stands in the room. By the laws of lists.
 -- Assumes nothing.
 use mathlib.Core.Path.{◌≡◌, refl, sym, ap, ◌∙◌}
 use Prim.Native.Nat.{ℕ, ◌+◌, ◌-◌, ◌≤◌}
@@ -6,12 +6,13 @@ use native.Mathlib.Omega.{arith}
 use mathlib.Core.List.{List, ◌++◌, append_assoc}
 use borrow.Author.Tests.{le-leb}
 use borrow.Rule.Slice.PartMut.{mid_of, put_mid, mid_len}
-use lib.IntN.{ℤ, pos, ◌+ℤ◌}
+use lib.IntN.{ℤ}
 use lib.ListN.{length, take, drop, length-append, take-append-drop}
 use lib.Seq.{drop-append-le, drop-drop}
-use mir.Syntax.{w64}
-use mir.Val.{SFits, to_z, of_z}
-use mir.ValLaws.{to_z_pos, to_z-of_z}
+use Rattle.std.specs.Prelude.{Result, Ok}
+use Rattle.refusals.specs.declared.Refusal.{Refusal}
+use Rattle.refusals.specs.Number.{number_back}
+use Rattle.refusals.proofs.Numbers.{number_back_tells}
 use Rattle.lent.specs.Lent.{over, placed}
 use Rattle.report.specs.Bench.{printed, most_printed, bench_answer, bench_leaves, Prints}
 
@@ -36,44 +37,39 @@ over_within s e left is same =
     let whole : length (over s e) ≡ length s + length (drop (length s) e) = length-append s (drop (length s) e) in
     omega (arith, ap length is, same, whole)
 
--- what is printed over a part of 1200 bytes
-record Within (input part : List ℕ) (r : ℤ) (left : List ℕ) : Type 0 where
-  count : r ≡ pos (length (printed input))
-  leaves : left ≡ over (printed input) part
-  most : length (printed input) ≤ length part
+-- what is printed into a room for it
+pub printed_ok : {input room left : List ℕ} (r : Result ℕ Refusal) → Prints input room (number_back r) left → 1200 ≤ length room
+    → r ≡ Ok (length (printed input))
+unfolding bench_answer most_printed number_back
+printed_ok {input} {room} r p h = number_back_tells r (Ok (length (printed input))) (p.answer ∙ rw (le-leb 1200 (length room) h) refl)
 
-printed_within : {input part left : List ℕ} {r : ℤ} → Prints input part r left → length left ≡ length part → 1200 ≤ length part → Within input part r left
-unfolding bench_answer bench_leaves most_printed
-printed_within {input} {part} {left} p same room =
-    let all : left ≡ over (printed input) part = p.leaves ∙ rw (le-leb 1200 (length part) room) refl in
+printed_over : {input room left : List ℕ} {r : ℤ} → Prints input room r left → 1200 ≤ length room → left ≡ over (printed input) room
+unfolding bench_leaves most_printed
+printed_over {input} {room} p h = p.leaves ∙ rw (le-leb 1200 (length room) h) refl
+
+-- the rest of a buffer, from a place on that leaves room for it
+pub printed_room : (at : ℕ) (e : List ℕ) → at ≤ 16743 → 17943 ≤ length e → 1200 ≤ length (mid_of at (length e - at) e)
+printed_room at e h k = omega (arith, mid_len at (length e) e (omega arith))
+
+-- what is printed there
+pub record PrintedAt (at n : ℕ) (input e left : List ℕ) : Type 0 where
+  pub count : n ≡ length (printed input)
+  pub within : at + n ≤ length e
+  pub leaves : put_mid at (length e - at) e left ≡ placed at (printed input) e
+
+pub printed_at : (at n : ℕ) (input e left : List ℕ) (r : Result ℕ Refusal) → at ≤ 16743 → 17943 ≤ length e
+    → Prints input (mid_of at (length e - at) e) (number_back r) left → length left ≡ length (mid_of at (length e - at) e) → r ≡ Ok n
+    → PrintedAt at n input e left
+printed_at at n input e left r h k p same is =
+    let part : List ℕ = mid_of at (length e - at) e in
+    let room = printed_room at e h k in
+    let long = mid_len at (length e) e (omega arith) in
+    let fine = printed_ok r p room in
+    let count : n ≡ length (printed input) = cc in
+    let all = printed_over p room in
+    let most = over_within (printed input) part left all same in
     record {
-      count = p.answer ∙ rw (le-leb 1200 (length part) room) refl;
-      leaves = all;
-      most = over_within (printed input) part left all same;
-    }
-
--- ---- the number, at and the count added as i64
-
-sum_is : (at n : ℕ) (r : ℤ) → r ≡ pos n → at ≤ 16743 → n ≤ 1200 → to_z w64 at +ℤ to_z w64 (of_z w64 r) ≡ pos (at + n)
-sum_is at n r is h k = rw (is, to_z_pos w64 at (omega arith), to_z_pos w64 n (omega arith)) refl
-
--- ---- both, for the part from at to at + 1200
-
-pub record PrintedAt (at : ℕ) (input e : List ℕ) (r : ℤ) (left : List ℕ) : Type 0 where
-  pub fits : SFits w64 (to_z w64 at +ℤ to_z w64 (of_z w64 r))
-  pub count : to_z w64 (of_z w64 (to_z w64 at +ℤ to_z w64 (of_z w64 r))) ≡ pos (at + length (printed input))
-  pub leaves : put_mid at (at + 1200 - at) e left ≡ placed at (printed input) e
-
-pub printed_at : (at : ℕ) (input e : List ℕ) {r : ℤ} {left : List ℕ} → at ≤ 16743 → at + 1200 ≤ length e
-    → Prints input (mid_of at (at + 1200 - at) e) r left → length left ≡ length (mid_of at (at + 1200 - at) e) → PrintedAt at input e r left
-printed_at at input e {r} {left} h room p same =
-    let long : length (mid_of at (at + 1200 - at) e) ≡ at + 1200 - at = mid_len at (at + 1200) e room in
-    let w = printed_within p same (omega (arith, long)) in
-    let sum = sum_is at (length (printed input)) r w.count h (omega (arith, long, w.most)) in
-    let fits : SFits w64 (pos (at + length (printed input))) = record { sfits = omega (arith, long, w.most) } in
-    record {
-      fits = rw sum fits;
-      count = rw sum (to_z-of_z w64 _ fits);
-      leaves =
-          ap (put_mid at (at + 1200 - at) e) w.leaves ∙ mid_placed at (at + 1200 - at) (printed input) e w.most;
+      count = count;
+      within = omega (arith, count, most, long);
+      leaves = ap (put_mid at (length e - at) e) all ∙ mid_placed at (length e - at) (printed input) e most;
     }

@@ -8,7 +8,10 @@ use native.Mathlib.Omega.{arith}
 use lib.IntN.{ℤ, pos}
 use lib.ListN.{length, take, length-append}
 use lib.Seq.{take-append_seam, drop-append-add, drop-drop}
-use Rattle.lent.specs.Lent.{over, placed, refused}
+use Rattle.std.specs.Prelude.{Ok, Err}
+use Rattle.refusals.specs.declared.Refusal.TheVariants.{Room}
+use Rattle.refusals.specs.Number.{number, number_back}
+use Rattle.lent.specs.Lent.{over, placed}
 use Rattle.lent.specs.Puts.{Puts}
 use Rattle.lines.specs.declared.Lines.{Lines}
 use Rattle.lines.specs.Lines.{fresh_lines, read_from}
@@ -16,8 +19,8 @@ use Rattle.lines.proofs.Reading.{reads_of_read}
 use Rattle.report.specs.Bench.{printed, most_printed, bench_answer, bench_leaves, Prints}
 use Rattle.picture.specs.Drawn.{drawn, pictured, most_pictured, picture_answer, picture_leaves, Pictures}
 
-pub pictures_short : (input room : List ℕ) → length room < 17943 → Pictures input room (refused 8) room
-unfolding picture_answer picture_leaves most_pictured
+pub pictures_short : (input room : List ℕ) → length room < 17943 → Pictures input room (number_back (Err Room)) room
+unfolding picture_answer picture_leaves most_pictured number_back number
 pictures_short input room h = record { answer = rw (lt-leb 17943 (length room) h); leaves = rw (lt-leb 17943 (length room) h) }
 
 pictures_all : (input room left : List ℕ) (r : ℤ) → 17943 ≤ length room → r ≡ pos (length (pictured input)) → left ≡ over (pictured input) room
@@ -40,15 +43,15 @@ over_then : (s v e : List ℕ) → placed (length s) v (over s e) ≡ over (s ++
 unfolding over placed
 over_then s v e = rw (take-append_seam, drop-append-add, drop-drop, length-append)
 
-pub pictures_drawn : (input room e left : List ℕ) (s : Lines) (at : ℕ) (r : ℤ) → s ≡ read_from fresh_lines input → s.bad ≡ 0 → 17943 ≤ length room
-    → Puts (drawn (take s.count s.uids)) room at e → r ≡ pos (at + length (printed input)) → left ≡ placed at (printed input) e
-    → Pictures input room r left
-unfolding pictured
-pictures_drawn input room e left s at r k fine h p n l =
+pub pictures_drawn : (input room e left : List ℕ) (s : Lines) (at n : ℕ) → s ≡ read_from fresh_lines input → s.bad ≡ 0 → 17943 ≤ length room
+    → Puts (drawn (take s.count s.uids)) room at e → n ≡ length (printed input) → left ≡ placed at (printed input) e
+    → Pictures input room (number_back (Ok (at + n))) left
+unfolding pictured number_back
+pictures_drawn input room e left s at n k fine h p count l =
     let us : List ℕ = take s.count s.uids in
     let all : drawn us ++ printed input ≡ pictured input = rw (← (reads_of_read input s k).bad, eq-eqb s.bad 0 fine, ← ((reads_of_read input s k).listed fine)) refl in
-    pictures_all input room left r h
-    (n ∙ ap (λ (m : ℕ). pos (m + length (printed input))) p.count ∙ ap pos (sym (length-append (drawn us) (printed input)))
+    pictures_all input room left (pos (at + n)) h
+    (rw count (ap (λ (m : ℕ). pos (m + length (printed input))) p.count) ∙ ap pos (sym (length-append (drawn us) (printed input)))
     ∙ ap (λ (x : List ℕ). pos (length x)) all)
     (l ∙ (λ i. placed (p.count i) (printed input) (p.leaves i)) ∙ over_then (drawn us) (printed input) room
     ∙ ap (λ (x : List ℕ). over x room) all)

@@ -2,29 +2,13 @@
 ghost use Rattle.std.specs.Prelude.{◌≡◌, true, cond, [], ◌∷◌, ◌+◌, ◌≤◌, eqb, length, take};
 ghost use Rattle.lent.specs.Puts.{Puts, PutsAt};
 ghost use Rattle.walk.specs.Record.{is_accepted};
-ghost use Rattle.digits.specs.Digits.{hex_digits};
 ghost use Rattle.picture.specs.Drawn.{sign, tail_shown, line_head, slot_drawn, twins_line, drawn};
 
 use crate::line::{ends_line, round, sign};
+use digits::{put_bytes, put_digits};
 use row::play::{deal, fresh, goes_on, slot};
 use row::{Air, Desk};
 use walk::Walk;
-
-// Puts bytes at a place that has room for them, and returns the place after them.
-fn put(bytes: &[u8], out: &mut [u8], at: usize) -> usize
-    requires { at + length bytes.now ≤ length out.old }
-    ensures { PutsAt at bytes.now out.old result out.new }
-{
-    digits::put_bytes(bytes, out, at) as usize
-}
-
-// So many digits.
-fn put_digits(n: u64, count: usize, out: &mut [u8], at: usize) -> usize
-    requires { at + count ≤ length out.old }
-    ensures { PutsAt at (hex_digits count n) out.old result out.new }
-{
-    digits::put_digits(n, count, out, at) as usize
-}
 
 // A tail: the digits that are free, and those of the mask.
 fn put_tail(level: usize, mask: u64, out: &mut [u8], at: usize) -> usize
@@ -33,9 +17,8 @@ fn put_tail(level: usize, mask: u64, out: &mut [u8], at: usize) -> usize
     ensures { PutsAt at (tail_shown level mask) out.old result out.new }
 {
     let free = [b'-'; 16];
-    let count = 16 - level;
-    let place = put(&free[..count], out, at);
-    put_digits(mask, level, out, place)
+    let place = put_bytes(&free[..16 - level], out, at).unwrap();
+    put_digits(mask, level, out, place).unwrap()
 }
 
 // What a line begins with, before slot 0.
@@ -47,10 +30,10 @@ fn put_head(walk: Walk, out: &mut [u8], at: usize) -> usize
     if walk.slot != 0 {
         return at;
     }
-    let number = round(walk.rounds as u64);
-    let place = put(&number, out, at);
-    let next = put_tail(walk.level as usize, walk.mask(), out, place);
-    put(b" ", out, next)
+    let number = round(u64::from(walk.rounds));
+    let place = put_bytes(&number, out, at).unwrap();
+    let next = put_tail(usize::from(walk.level), walk.mask(), out, place);
+    put_bytes(b" ", out, next).unwrap()
 }
 
 // A sign, and the line's end where it ends.
@@ -86,10 +69,10 @@ fn put_twins(desk: Desk, out: &mut [u8], at: usize) -> usize
     if walk.ending != 2 {
         return at;
     }
-    let place = put(b"twins ", out, at);
-    let uid = (0xe0 << 56) + ((walk.slot as u64) << 52) + walk.mask();
-    let next = put_digits(uid, 16, out, place);
-    put(b"\n", out, next)
+    let place = put_bytes(b"twins ", out, at).unwrap();
+    let uid = (0xe0 << 56) + (u64::from(walk.slot) << 52) + walk.mask();
+    let next = put_digits(uid, 16, out, place).unwrap();
+    put_bytes(b"\n", out, next).unwrap()
 }
 
 // All that is drawn of a walk over the cards of the first n UIDs.
@@ -97,7 +80,7 @@ pub(crate) fn draw(uids: [u64; 100], n: usize, out: &mut [u8]) -> usize
     requires { 17943 ≤ length out.old }
     ensures { Puts (drawn (take n uids)) out.old result out.new }
 {
-    let mut at = put(b"round tail             0123456789ABCDEF\n", out, 0);
+    let mut at = put_bytes(b"round tail             0123456789ABCDEF\n", out, 0).unwrap();
     let mut row = deal(uids);
     let mut desk = fresh();
     let mut count = 0;

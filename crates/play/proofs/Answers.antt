@@ -25,7 +25,7 @@ pub puts_sets : (s e : List ℕ) → length s ≤ length e → Puts s e (length 
 puts_sets s e h = record { count = refl; leaves = sets_over s e h }
 
 -- the first byte, and copied bytes after it
-pub puts_first : (b n : ℕ) (v e : List ℕ) → length v ≡ n → 1 + n ≤ length e → Puts (b ∷ v) e (n + 1) (placed 1 v (set e 0 b))
+pub puts_first : (b n : ℕ) (v e : List ℕ) → length v ≡ n → 1 + n ≤ length e → Puts (b ∷ v) e (1 + n) (placed 1 v (set e 0 b))
 puts_first b n v e is h = record { count = omega arith; leaves = first_placed b v e (omega arith) }
 
 -- a field after the bytes at the start

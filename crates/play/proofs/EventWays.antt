@@ -8,9 +8,15 @@ use mathlib.Core.List.{List, [], ◌∷◌}
 use borrow.Author.Tests.{eq-eqb, ne_eqb}
 use lib.Dec.{eqb}
 use lib.ListN.{length}
+use Rattle.std.specs.Prelude.{Result, Ok, Err}
+use Rattle.std.specs.Result.{IsErrAnd}
+use Rattle.std.proofs.lemmas.Result.{err_from_is_err_and}
 use Rattle.lent.specs.Lent.{over}
 use Rattle.lent.specs.Puts.{Puts}
 use Rattle.lent.proofs.Over.{over_none, over_over, take_over}
+use Rattle.refusals.specs.declared.Refusal.{Refusal}
+use Rattle.refusals.specs.Number.{number, number_of}
+use Rattle.refusals.proofs.Numbers.{number_is_some}
 use Rattle.crc.specs.Check.{sealed}
 use Rattle.card.specs.declared.Card.{Card}
 use Rattle.card.specs.declared.Reply.{Reply}
@@ -29,7 +35,7 @@ use Rattle.play.specs.Effects.{memory_after, locks_after}
 use Rattle.play.specs.Refusal.{refusal}
 use Rattle.play.specs.Steps.{is_brief, Finishes}
 use Rattle.play.specs.Answer.{reply_bytes}
-use Rattle.play.specs.Events.{length_told, answered, Outcome, replied, unserved, event, carried_out, frame_event, Leaves}
+use Rattle.play.specs.Events.{length_told, answered, Outcome, replied, unserved, event, carried_out, frame_event, card_after, length_of, Leaves}
 
 module _ (c : Card) (memory locks found : List ℕ) (served : Outcome) where
   pub event_refused : (n : ℕ) → n ≡ refusal c (length memory) locks (length found) → (n ≡ 0 → ⊥)
@@ -67,15 +73,26 @@ module _ (body found : List ℕ) where
 
 -- ---- what a call promises, way by way
 
-module _ (card : Card) (memory locks found : List ℕ) (served : Outcome) (n : ℕ) (told : n ≡ refusal card (length memory) locks (length found)) where
-  pub leaves_refused : (n ≡ 0 → ⊥) → Leaves (event card memory locks found served) (record { card = card; number = n; length = 0 }) memory locks found
-  unfolding unserved
-  leaves_refused h =
-      rw (event_refused card memory locks found served n told h)
+module _ (card : Card) (memory locks found : List ℕ) (served : Outcome) where
+  pub leaves_refused : (e : Refusal) → number e ≡ refusal card (length memory) locks (length found)
+      → Leaves card (event card memory locks found served) (Err e) memory locks found
+  unfolding unserved card_after length_of number_of
+  leaves_refused e told =
+      rw (event_refused card memory locks found served (number e) told (number_is_some e))
       (record { card = refl; number = refl; told = refl; memory_left = refl; locks_left = refl; answer_left = refl })
 
-  pub leaves_served : (r : Served) (m l a : List ℕ) → n ≡ 0 → Leaves served r m l a → Leaves (event card memory locks found served) r m l a
-  leaves_served r m l a h p = rw (event_served card memory locks found served n told h) p
+  -- the same at the exit of a `?`
+  pub leaves_exit : (r : Result Served Refusal) (e : Refusal) → IsErrAnd r (λ f. f ≡ e) → number e ≡ refusal card (length memory) locks (length found)
+      → Leaves card (event card memory locks found served) r memory locks found
+  leaves_exit r e is told =
+      let p = err_from_is_err_and r is in
+      rw (p.1, p.2) (leaves_refused e told)
+
+  pub leaves_served : (c : Card) (s : Served) (m l a : List ℕ) → 0 ≡ refusal card (length memory) locks (length found) → Leaves c served (Ok s) m l a → Leaves card (event card memory locks found served) (Ok s) m l a
+  unfolding card_after
+  leaves_served c s m l a told p =
+      rw (event_served card memory locks found served 0 told refl)
+      (record { card = p.card; number = p.number; told = p.told; memory_left = p.memory_left; locks_left = p.locks_left; answer_left = p.answer_left })
 
 -- ---- a reply, silent or with its check
 
@@ -95,9 +112,9 @@ finished body found p f = (
 -- a reply over memory and locks that now are m and l
 pub leaves_reply : (c : Card) (m l found : List ℕ) (reply : Reply) {n : ℕ} {e : List ℕ} {r : ℕ} {a : List ℕ}
     → Puts (reply_bytes c m l reply) found n e → Finishes n e r a
-    → Leaves (replied c m l reply found) (record { card = c; number = 0; length = r }) m l a
-unfolding replied
-leaves_reply c m l found reply p f =
+    → (old : Card) → Leaves old (replied c m l reply found) (Ok (record { card = c; length = r })) m l a
+unfolding replied card_after length_of number_of
+leaves_reply c m l found reply p f old =
     let done = finished (reply_bytes c m l reply) found p f in
     record { card = refl; number = refl; told = done.0; memory_left = refl; locks_left = refl; answer_left = done.1 }
 
@@ -105,14 +122,14 @@ leaves_reply c m l found reply p f =
 pub leaves_deed : (d : Deed) (frame memory locks found : List ℕ) {m l : List ℕ} {n : ℕ} {e : List ℕ} {r : ℕ} {a : List ℕ}
     → m ≡ memory_after d.card frame memory d.effect → l ≡ locks_after locks d.effect
     → Puts (reply_bytes d.card m l d.reply) found n e → Finishes n e r a
-    → Leaves (carried_out d frame memory locks found) (record { card = d.card; number = 0; length = r }) m l a
+    → (old : Card) → Leaves old (carried_out d frame memory locks found) (Ok (record { card = d.card; length = r })) m l a
 unfolding carried_out
-leaves_deed d frame memory locks found {m} {l} p q put f = rw (← p, ← q) (leaves_reply d.card m l found d.reply put f)
+leaves_deed d frame memory locks found {m} {l} p q put f old = rw (← p, ← q) (leaves_reply d.card m l found d.reply put f old)
 
 -- power off, and a mark's turn
 pub leaves_off : (card c : Card) (memory locks found : List ℕ) → c ≡ powered_off card
-    → Leaves (replied (powered_off card) memory locks Silence found) (record { card = c; number = 0; length = 0 }) memory locks found
-unfolding replied
+    → Leaves card (replied (powered_off card) memory locks Silence found) (Ok (record { card = c; length = 0 })) memory locks found
+unfolding replied card_after length_of number_of
 leaves_off card c memory locks found e =
     let none : length (reply_bytes (powered_off card) memory locks Silence) ≡ 0 = silence_length (powered_off card) memory locks in
     record {
@@ -126,6 +143,6 @@ leaves_off card c memory locks found e =
 
 pub leaves_turn : (card : Card) (t : Turn) (memory locks found : List ℕ) {n : ℕ} {e : List ℕ} {r : ℕ} {a : List ℕ} → t ≡ marked card
     → is_brief t.reply ≡ true → Puts (reply_bytes t.card [] [] t.reply) found n e → Finishes n e r a
-    → Leaves (replied (marked card).card memory locks (marked card).reply found) (record { card = t.card; number = 0; length = r }) memory locks a
+    → Leaves card (replied (marked card).card memory locks (marked card).reply found) (Ok (record { card = t.card; length = r })) memory locks a
 leaves_turn card t memory locks found is brief put f =
-    rw (← is) (leaves_reply t.card memory locks found t.reply (rw (brief_bytes t.card memory locks t.reply brief) put) f)
+    rw (← is) (leaves_reply t.card memory locks found t.reply (rw (brief_bytes t.card memory locks t.reply brief) put) f card)

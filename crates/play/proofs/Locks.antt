@@ -1,9 +1,9 @@
 -- Lock bytes that are 0 or 1, told from the highest so far and from what is left at a place. By the tests of the bytes.
 -- Assumes nothing.
 use mathlib.Core.Path.{◌≡◌}
-use mathlib.Core.Bool.{◌&&◌, and_assoc, and-true, and-false}
+use mathlib.Core.Bool.{◌&&◌, and_assoc, and-true}
 use mathlib.Core.List.{List}
-use Prim.Native.Nat.{ℕ, ◌+◌, ◌≤◌, ◌<◌}
+use Prim.Native.Nat.{ℕ, ◌+◌, max, ◌≤◌, ◌<◌}
 use native.Mathlib.Numerals.{add-one}
 use native.Mathlib.Omega.{arith}
 use native.Mathlib.Decide.{dec_le}
@@ -14,24 +14,17 @@ use lib.Seq.{drop-cons}
 use Rattle.play.specs.Refusal.{locks_fit}
 
 -- two bytes fit where the higher does
-pub second_higher : (a b : ℕ) → a < b → leb b 1 ≡ (leb a 1 && leb b 1)
-second_higher a b h = go (dec_le b 1)
+higher_fits : (a b : ℕ) → leb (max a b) 1 ≡ (leb a 1 && leb b 1)
+higher_fits a b = go (dec_le (max a b) 1)
   where
-    go : Dec (b ≤ 1) → leb b 1 ≡ (leb a 1 && leb b 1)
-    go (yes g) = rw (le-leb b 1 g, le-leb a 1 (omega arith))
-    go (no g) = rw (lt-leb b 1 (omega arith), and-false)
+    go : Dec (max a b ≤ 1) → leb (max a b) 1 ≡ (leb a 1 && leb b 1)
+    go (yes g) = rw (le-leb (max a b) 1 g, le-leb a 1 (omega arith), le-leb b 1 (omega arith))
+    go (no g) = rw (lt-leb (max a b) 1 (omega arith)) (grind arith)
 
-pub first_higher : (a b : ℕ) → b ≤ a → leb a 1 ≡ (leb a 1 && leb b 1)
-first_higher a b h = go (dec_le a 1)
-  where
-    go : Dec (a ≤ 1) → leb a 1 ≡ (leb a 1 && leb b 1)
-    go (yes g) = rw (le-leb a 1 g, le-leb b 1 (omega arith))
-    go (no g) = rw (lt-leb a 1 (omega arith))
-
-pub locks_next : (locks : List ℕ) (i highest next : ℕ) → i < length locks → leb next 1 ≡ (leb highest 1 && leb (get_or locks i 0) 1)
-    → (leb highest 1 && locks_fit (drop i locks)) ≡ locks_fit locks → (leb next 1 && locks_fit (drop (i + 1) locks)) ≡ locks_fit locks
+pub locks_next : (locks : List ℕ) (i highest : ℕ) → i < length locks → (leb highest 1 && locks_fit (drop i locks)) ≡ locks_fit locks
+    → (leb (max highest (get_or locks i 0)) 1 && locks_fit (drop (i + 1) locks)) ≡ locks_fit locks
 unfolding locks_fit
-locks_next locks i highest next h e p = rw (e, and_assoc, add-one) (rw (drop-cons locks i 0 h) at p)
+locks_next locks i highest h p = rw (higher_fits highest (get_or locks i 0), and_assoc, add-one) (rw (drop-cons locks i 0 h) at p)
 
 pub locks_past : (locks : List ℕ) (i highest : ℕ) → length locks ≤ i → (leb highest 1 && locks_fit (drop i locks)) ≡ locks_fit locks
     → leb highest 1 ≡ locks_fit locks

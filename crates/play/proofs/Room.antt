@@ -5,10 +5,8 @@ use mathlib.Core.Bool.{Bool, true, false}
 use mathlib.Core.List.{List, []}
 use Prim.Native.Nat.{ℕ, ◌+◌, ◌-◌, ◌*◌, ◌≤◌}
 use native.Mathlib.Nat.{mul-le-mul, mul-le-mul_right, le-mul_of_pos_right}
-use native.Mathlib.Decide.{dec_le}
 use native.Mathlib.Omega.{arith}
-use borrow.Author.Tests.{leb-true, le-leb, lt-leb}
-use lib.Dec.{leb}
+use borrow.Author.Tests.{leb-true}
 use lib.ListN.{length}
 use Rattle.lent.specs.Puts.{Puts}
 use Rattle.card.specs.declared.Card.{Card}
@@ -36,19 +34,6 @@ unfolding room_fits room_asked
 room_of c room e =
     let asked : room_asked c ≤ room = leb-true (room_asked c) room e in
     record { asked = asked; least = omega arith }
-
--- its two tests, one after the other
-pub room_under : (c : Card) (room : ℕ) → room + 1 ≤ 32 → room_fits c room ≡ false
-unfolding room_fits room_asked
-room_under c room h = lt-leb (room_asked c) room (omega arith)
-
-pub room_tested : (c : Card) (room : ℕ) → 32 ≤ room → leb (3 + c.blocks * (c.size + 1)) room ≡ room_fits c room
-unfolding room_fits room_asked
-room_tested c room h = go (dec_le (3 + c.blocks * (c.size + 1)) room)
-  where
-    go : Dec (3 + c.blocks * (c.size + 1) ≤ room) → leb (3 + c.blocks * (c.size + 1)) room ≡ leb (room_asked c) room
-    go (yes g) = rw (le-leb (3 + c.blocks * (c.size + 1)) room g, le-leb (room_asked c) room (omega arith))
-    go (no g) = rw (lt-leb (3 + c.blocks * (c.size + 1)) room (omega arith), lt-leb (room_asked c) room (omega arith))
 
 -- ---- it holds every answer
 

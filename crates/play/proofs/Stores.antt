@@ -1,18 +1,19 @@
 -- Blocks stored one after another: where each lies and where its data stand, the memory's length, every byte of it, and one block alone.
 -- By induction over the blocks. Assumes nothing.
-use mathlib.Core.Path.{◌≡◌, refl, ap, ◌∙◌}
-use mathlib.Core.List.{List}
+use mathlib.Core.Path.{◌≡◌, refl, sym, ap, ◌∙◌}
+use mathlib.Core.List.{List, ◌++◌}
 use Prim.Native.Nat.{ℕ, zero, suc, ◌+◌, ◌-◌, ◌*◌, ◌≤◌, ◌<◌}
 use native.Mathlib.Decide.{dec_lt}
 use native.Mathlib.Nat.{add-zero, zero-mul, suc-mul, add-mul}
 use native.Mathlib.Omega.{arith}
 use lib.ListN.{length, take, drop, get_or}
-use lib.Seq.{get_or-take, get_or-drop}
+use lib.Seq.{get_or-take, get_or-drop, take-add, drop-drop}
 use Rattle.lent.specs.Lent.{placed}
-use Rattle.lent.proofs.Over.{length_placed}
+use Rattle.lent.proofs.Over.{length_placed, placed_none, placed_placed}
 use Rattle.lent.proofs.Placed.{placed_before, placed_byte, placed_past}
 use Rattle.play.specs.Effects.{blocks_stored}
-use Rattle.play.proofs.Copy.{length_part}
+use borrow.Rule.Slice.PartMut.{put_mid}
+use Rattle.play.proofs.Copy.{length_part, copied}
 use Rattle.play.proofs.Products.{block_within}
 
 -- the data of block i of n stand in the frame
@@ -46,8 +47,6 @@ pub stored_one : (frame : List ℕ) (place size block : ℕ) (memory : List ℕ)
 unfolding blocks_stored
 stored_one frame place size block memory = rw (add-zero, zero-mul, add-zero)
 
--- ---- byte by byte
-
 -- the last block of suc n: its data stand in the frame, it lies in memory, and there is room for it after the others
 last_within : (frame : List ℕ) (place size first n : ℕ) (memory : List ℕ) → place + suc n * size ≤ length frame
     → (first + suc n) * size ≤ length memory
@@ -60,6 +59,35 @@ last_within frame place size first n memory h m =
     let inside = store_within size first (suc n) n next m in
     let before = length_stored frame place size first n memory (omega (arith, source)) (omega (arith, inside)) in
     (source, inside, rw (length_part (place + n * size) size frame source, before) inside)
+
+-- all of them at once
+pub stored_whole : (frame : List ℕ) (place size first n : ℕ) (memory : List ℕ) → place + n * size ≤ length frame → (first + n) * size ≤ length memory
+    → placed (first * size) (take (n * size) (drop place frame)) memory ≡ blocks_stored frame place size first n memory
+unfolding blocks_stored
+stored_whole frame place size first zero memory h k = rw zero-mul (placed_none (first * size) memory)
+stored_whole frame place size first (suc n) memory h k =
+    let last = last_within frame place size first n memory h k in
+    let s : List ℕ = take (n * size) (drop place frame) in
+    let v : List ℕ = take size (drop (place + n * size) frame) in
+    let before : placed (first * size) s memory ≡ blocks_stored frame place size first n memory =
+    stored_whole frame place size first n memory (omega (arith, last.0)) (omega (arith, last.1)) in
+    let part : length s ≡ n * size = length_part place (n * size) frame (omega (arith, last.0)) in
+    let one : length v ≡ size = length_part (place + n * size) size frame last.0 in
+    let end : first * size + length s ≡ (first + n) * size = rw part (sym (add-mul first n size)) in
+    let both : take (suc n * size) (drop place frame) ≡ s ++ v = rw (suc-mul, take-add, drop-drop) refl in
+    rw both
+    (sym (placed_placed (first * size) s v memory (omega (arith, end, one, last.1)))
+    ∙ ap (λ (i : ℕ). placed i v (placed (first * size) s memory)) end
+    ∙ ap (λ (m : List ℕ). placed ((first + n) * size) v m) before)
+
+-- what one copy of them leaves
+pub stored_copy : (frame : List ℕ) (place size first n : ℕ) (memory part : List ℕ)
+    → part ≡ take (place + n * size - place) (drop place frame) → place + n * size ≤ length frame → (first + n) * size ≤ length memory
+    → put_mid (first * size) (first * size + n * size - first * size) memory part ≡ blocks_stored frame place size first n memory
+stored_copy frame place size first n memory part is h k =
+    copied frame memory place (first * size) (n * size) is h ∙ stored_whole frame place size first n memory h k
+
+-- ---- byte by byte
 
 -- the bytes of the blocks are the frame's
 pub stored_byte : (frame : List ℕ) (place size first n : ℕ) (memory : List ℕ) → place + n * size ≤ length frame

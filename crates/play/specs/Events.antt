@@ -1,6 +1,8 @@
 -- 01, The card: the three events, each with its refusals, what it makes of the record and of every lent byte, and its answer.
-use Rattle.std.specs.Prelude.{ℕ, ◌+◌, cond, List, ◌≡◌, eqb, length}
+use Rattle.std.specs.Prelude.{ℕ, ◌+◌, cond, List, ◌≡◌, eqb, length, Result, Ok, Err}
 use Rattle.lent.specs.Lent.{over}
+use Rattle.refusals.specs.declared.Refusal.{Refusal}
+use Rattle.refusals.specs.Number.{number_of}
 use Rattle.crc.specs.Check.{sealed}
 use Rattle.card.specs.declared.Card.{Card}
 use Rattle.commands.specs.declared.Deed.{Deed}
@@ -73,11 +75,21 @@ off_event c memory locks found = event c memory locks found (replied (powered_of
 abbrev pub AcceptedNext : Outcome → Type 0
 AcceptedNext o = Accepted o.card o.memory o.locks o.answer
 
--- what the three calls promise: what is returned, and every lent byte
-pub record Leaves (o : Outcome) (r : Served) (memory locks answer : List ℕ) : Type 0 where
-  pub card : r.card ≡ o.card
-  pub number : r.number ≡ o.number
-  pub told : r.length ≡ o.told
+-- the record after a call: where it is refused, the one that it was called with
+unfoldable pub card_after : Card → Result Served Refusal → Card
+card_after c (Ok served) = served.card
+card_after c (Err refusal) = c
+
+-- the answer's length: where it is refused, there is none
+unfoldable pub length_of : Result Served Refusal → ℕ
+length_of (Ok served) = served.length
+length_of (Err refusal) = 0
+
+-- what the three calls promise for a card: what is returned, and every lent byte
+pub record Leaves (c : Card) (o : Outcome) (r : Result Served Refusal) (memory locks answer : List ℕ) : Type 0 where
+  pub card : card_after c r ≡ o.card
+  pub number : number_of r ≡ o.number
+  pub told : length_of r ≡ o.told
   pub memory_left : memory ≡ o.memory
   pub locks_left : locks ≡ o.locks
   pub answer_left : answer ≡ o.answer

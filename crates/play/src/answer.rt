@@ -7,7 +7,7 @@ ghost use Rattle.play.specs.Steps.{is_brief, Ready, PutsReply};
 ghost use Rattle.play.specs.Answer.{block_read, blocks_read, locks_read, information, presence, reply_bytes};
 ghost use Rattle.lent.specs.Puts.{Puts, PutsAt};
 
-use crate::effects::copy;
+use crate::effects::copy_all;
 use card::{Card, Reply};
 
 fn put_error(code: u8, answer: &mut [u8]) -> usize
@@ -33,8 +33,7 @@ fn put_presence(card: Card, answer: &mut [u8]) -> usize
 {
     answer[0] = 0x00;
     answer[1] = card.dsfid;
-    frames::put_field(answer, 2, 8, card.uid);
-    10
+    frames::put_field(answer, 2, 8, card.uid).unwrap()
 }
 
 fn put_information(card: Card, answer: &mut [u8]) -> usize
@@ -44,7 +43,7 @@ fn put_information(card: Card, answer: &mut [u8]) -> usize
 {
     answer[0] = 0x00;
     answer[1] = 0x0f;
-    frames::put_field(answer, 2, 8, card.uid);
+    frames::put_field(answer, 2, 8, card.uid).unwrap();
     answer[10] = card.dsfid;
     answer[11] = card.afi;
     answer[12] = (card.blocks - 1) as u8;
@@ -68,12 +67,13 @@ fn put_block(
     requires option_in_bounds { at + (size + lead option) ≤ length answer.old }
     ensures { PutsAt at (block_read memory.now locks.now size option block) answer.old result answer.new }
 {
+    let mut at = at;
     if option {
         answer[at] = locks[block];
-        copy(memory, block * size, size, answer, at + 1);
-        return at + 1 + size;
+        at += 1;
     }
-    copy(memory, block * size, size, answer, at);
+    let start = block * size;
+    copy_all(&mut answer[at..at + size], &memory[start..start + size]);
     at + size
 }
 
@@ -93,10 +93,8 @@ fn put_blocks(
 {
     answer[0] = 0x00;
     let mut at = 1;
-    let mut i = 0;
-    while i < n {
-        at = put_block(memory, locks, size, option, first + i, answer, at);
-        i += 1;
+    for block in first..first + n {
+        at = put_block(memory, locks, size, option, block, answer, at);
     }
     at
 }
@@ -107,11 +105,12 @@ fn put_locks(locks: &[u8], first: usize, n: usize, answer: &mut [u8]) -> usize
     ensures { Puts (0x00 ∷ locks_read locks.now first n) answer.old result answer.new }
 {
     answer[0] = 0x00;
-    copy(locks, first, n, answer, 1);
-    n + 1
+    copy_all(&mut answer[1..1 + n], &locks[first..first + n]);
+    1 + n
 }
 
 // The replies that need no memory.
+#[tactic(auto, using(crate::proofs::Room::brief_put, crate::proofs::Answers::length_presence, lent::proofs::Over::over_none), unfolding(crate::specs::Answer::reply_bytes, crate::specs::Steps::is_brief))]
 pub(crate) fn put_brief(card: Card, reply: Reply, answer: &mut [u8]) -> usize
     requires reply_value { is_brief reply ≡ true }
     requires in_bounds { 12 ≤ length answer.old }
@@ -125,6 +124,7 @@ pub(crate) fn put_brief(card: Card, reply: Reply, answer: &mut [u8]) -> usize
     }
 }
 
+#[tactic(auto, using(crate::proofs::Room::room_of), unfolding(crate::specs::Fits::reply_fits))]
 pub(crate) fn put_reply(
     card: Card,
     memory: &[u8],

@@ -7,35 +7,31 @@ ghost use Rattle.play.specs.Effects.{blocks_stored, memory_after, locks_after};
 use card::Card;
 use commands::Effect;
 
-// Copies n bytes from a place of one buffer to a place of another.
-pub(crate) fn copy(from: &[u8], at: usize, n: usize, to: &mut [u8], place: usize)
-    requires n_in_bounds { at + n ≤ length from.now }
-    requires n_in_bounds_2 { place + n ≤ length to.old }
-    ensures { to.new ≡ placed place (take n (drop at from.now)) to.old }
+// Copies all bytes, one by one: std's copy_from_slice of bytes whose number varies is a call of C's memmove, and the library calls nothing.
+pub(crate) fn copy_all(to: &mut [u8], from: &[u8])
+    requires { length to.old ≡ length from.now }
+    ensures len { length to.new ≡ length to.old }
+    ensures after { to.new ≡ from.now }
 {
-    let mut i = 0;
-    while i < n {
-        to[place + i] = from[at + i];
-        i += 1;
+    for i in 0..from.len() {
+        to[i] = from[i];
     }
 }
 
 // Stores n blocks from the first on, one after another. Their data stand at a place of the frame.
+#[tactic(auto, using(crate::proofs::Stores::stored_copy))]
 fn store_blocks(frame: &[u8], place: usize, size: usize, first: u32, n: u32, memory: &mut [u8])
     requires size_in_bounds { place + n * size ≤ length frame.now }
     requires size_in_bounds_2 { (first + n) * size ≤ length memory.old }
     ensures { memory.new ≡ blocks_stored frame.now place size first n memory.old }
 {
-    let start = first as usize;
-    let count = n as usize;
-    let mut i = 0;
-    while i < count {
-        copy(frame, place + i * size, size, memory, (start + i) * size);
-        i += 1;
-    }
+    let start = first as usize * size;
+    let all = n as usize * size;
+    copy_all(&mut memory[start..start + all], &frame[place..place + all]);
 }
 
 // Writes the blocks, or locks the one, as the effect is.
+#[tactic(auto, unfolding(crate::specs::Effects::memory_after, crate::specs::Effects::locks_after, crate::specs::Fits::effect_fits))]
 pub(crate) fn take_effect(
     card: Card,
     frame: &[u8],

@@ -1,14 +1,15 @@
 // A frame, a slot mark, power off.
-ghost use Rattle.std.specs.Prelude.{◌+◌, ◌≤◌, length};
+ghost use Rattle.std.specs.Prelude.{Ok, ◌+◌, ◌≤◌, length};
 ghost use Rattle.play.specs.Steps.{DeedReady, Finishes};
 ghost use Rattle.play.specs.Events.{carried_out, frame_event, mark_event, off_event, Leaves};
 
 use crate::Served;
 use crate::answer::{put_brief, put_reply};
 use crate::effects::take_effect;
-use crate::refusal::refusal;
-use card::Card;
+use crate::refusal::accept;
+use card::{Card, Turn};
 use commands::Deed;
+use refusals::Refusal;
 
 // The check put behind n bytes of an answer, and its length; nothing for silence.
 fn finish(n: usize, answer: &mut [u8]) -> usize
@@ -18,8 +19,7 @@ fn finish(n: usize, answer: &mut [u8]) -> usize
     if n == 0 {
         return 0;
     }
-    frames::seal(answer, n);
-    n + 2
+    frames::seal(answer, n).unwrap()
 }
 
 // A deed over memory and locks, and its answer.
@@ -31,16 +31,12 @@ fn carry_out(
     answer: &mut [u8],
 ) -> Served
     requires { DeedReady frame.now deed (length memory.old) (length locks.old) (length answer.old) }
-    ensures { Leaves (carried_out deed frame.now memory.old locks.old answer.old) result memory.new locks.new answer.new }
+    ensures { Leaves deed.card (carried_out deed frame.now memory.old locks.old answer.old) (Ok result) memory.new locks.new answer.new }
 {
-    let next = deed.card;
-    let effect = deed.effect;
-    let reply = deed.reply;
-    take_effect(next, frame, effect, memory, locks);
-    let n = put_reply(next, memory, locks, reply, answer);
+    take_effect(deed.card, frame, deed.effect, memory, locks);
+    let n = put_reply(deed.card, memory, locks, deed.reply, answer);
     Served {
-        card: next,
-        number: 0,
+        card: deed.card,
         length: finish(n, answer),
     }
 }
@@ -52,61 +48,33 @@ pub fn frame(
     memory: &mut [u8],
     locks: &mut [u8],
     answer: &mut [u8],
-) -> Served
-    ensures { Leaves (frame_event card frame.now memory.old locks.old answer.old) result memory.new locks.new answer.new }
+) -> Result<Served, Refusal>
+    ensures { Leaves card (frame_event card frame.now memory.old locks.old answer.old) result memory.new locks.new answer.new }
 {
-    let number = refusal(card, memory.len(), locks, answer.len());
-    if number != 0 {
-        return Served {
-            card: card,
-            number: number,
-            length: 0,
-        };
-    }
+    accept(card, memory.len(), locks, answer.len())?;
     let deed = commands::decide(card, locks, frame);
-    carry_out(deed, frame, memory, locks, answer)
+    Ok(carry_out(deed, frame, memory, locks, answer))
 }
 
 // A slot mark arrives.
-pub fn mark(card: Card, memory: &[u8], locks: &[u8], answer: &mut [u8]) -> Served
-    ensures { Leaves (mark_event card memory.now locks.now answer.old) result memory.now locks.now answer.new }
+pub fn mark(card: Card, memory: &[u8], locks: &[u8], answer: &mut [u8]) -> Result<Served, Refusal>
+    ensures { Leaves card (mark_event card memory.now locks.now answer.old) result memory.now locks.now answer.new }
 {
-    let number = refusal(card, memory.len(), locks, answer.len());
-    if number != 0 {
-        return Served {
-            card: card,
-            number: number,
-            length: 0,
-        };
-    }
-    let turn = card.hear_mark();
-    let next = turn.card;
-    let reply = turn.reply;
-    let n = put_brief(next, reply, answer);
-    let told = finish(n, answer);
-    Served {
-        card: next,
-        number: 0,
-        length: told,
-    }
+    accept(card, memory.len(), locks, answer.len())?;
+    let Turn { card, reply } = card.hear_mark();
+    let n = put_brief(card, reply, answer);
+    let length = finish(n, answer);
+    Ok(Served { card, length })
 }
 
 // Power goes off.
-pub fn power_off(card: Card, memory: &[u8], locks: &[u8], answer: &[u8]) -> Served
-    ensures { Leaves (off_event card memory.now locks.now answer.now) result memory.now locks.now answer.now }
+pub fn power_off(card: Card, memory: &[u8], locks: &[u8], answer: &[u8]) -> Result<Served, Refusal>
+    ensures { Leaves card (off_event card memory.now locks.now answer.now) result memory.now locks.now answer.now }
 {
-    let number = refusal(card, memory.len(), locks, answer.len());
-    if number != 0 {
-        return Served {
-            card: card,
-            number: number,
-            length: 0,
-        };
-    }
+    accept(card, memory.len(), locks, answer.len())?;
     let off = card.power_off();
-    Served {
+    Ok(Served {
         card: off,
-        number: 0,
         length: 0,
-    }
+    })
 }

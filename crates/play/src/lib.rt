@@ -8,10 +8,9 @@ mod refusal;
 
 use card::Card;
 
-// What an event returns: the next record, the number of the refusal or 0, and the answer's length, 0 for silence.
+// What an event that is served returns: the next record, and the answer's length, 0 for silence.
 #[derive(Clone, Copy)]
 pub struct Served {
     pub card: Card,
-    pub number: u8,
     pub length: usize,
 }

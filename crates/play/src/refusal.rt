@@ -1,78 +1,56 @@
 // The refusals 1 to 4 of a call, in their order.
-ghost use Rattle.std.specs.Prelude.{◌≡◌, cond, ◌&&◌, leb};
+ghost use Rattle.std.specs.Prelude.{◌≡◌, ◌&&◌, leb};
+ghost use Rattle.refusals.specs.Number.{number_of};
 ghost use Rattle.play.specs.Refusal.{lengths_fit, locks_fit, room_fits, refusal};
 
 use card::Card;
+use refusals::Refusal;
 
+#[tactic(auto, unfolding(crate::specs::Refusal::lengths_fit))]
 fn lengths_fit(card: Card, memory: usize, locks: usize) -> bool
     ensures { result ≡ lengths_fit card memory locks }
 {
     let blocks = card.blocks as usize;
     let size = card.size as usize;
-    if memory != blocks * size {
-        return false;
-    }
-    locks == blocks
-}
-
-// The higher of two bytes.
-fn higher(a: u8, b: u8) -> u8
-    ensures { leb result 1 ≡ (leb a 1 && leb b 1) }
-{
-    if a < b { b } else { a }
+    memory == blocks * size && locks == blocks
 }
 
 // Whether the highest lock byte is 0 or 1. Looked for to the end, so that the compiler takes many bytes at a time.
 fn locks_fit(locks: &[u8]) -> bool
     ensures { result ≡ locks_fit locks.now }
 {
-    let mut highest = 0;
-    let mut i = 0;
-    while i < locks.len() {
-        highest = higher(highest, locks[i]);
-        i += 1;
+    let mut highest = 0u8;
+    for lock in locks {
+        highest = highest.max(*lock);
     }
     highest <= 1
 }
 
+#[tactic(auto, unfolding(crate::specs::Refusal::room_fits, crate::specs::Refusal::room_asked))]
 fn room_fits(card: Card, room: usize) -> bool
     ensures { result ≡ room_fits card room }
 {
     let blocks = card.blocks as usize;
     let size = card.size as usize;
-    if room < 32 {
-        return false;
-    }
-    3 + blocks * (size + 1) <= room
+    usize::max(32, 3 + blocks * (size + 1)) <= room
 }
 
-// The number of the first test that fails, or 0 for none.
-fn first_number(accepted: bool, lengths: bool, locks: bool, room: bool) -> u8
-    ensures { result ≡ cond accepted (cond lengths (cond locks (cond room 0 4) 3) 2) 1 }
+// Tests in the order of the numbers.
+#[tactic(auto, unfolding(crate::specs::Refusal::refusal, refusals::specs::Number::number, refusals::specs::Number::number_of))]
+pub(crate) fn accept(card: Card, memory: usize, locks: &[u8], room: usize) -> Result<(), Refusal>
+    ensures { number_of result ≡ refusal card memory locks.now room }
 {
-    if !accepted {
-        return 1;
+    if !card.is_accepted() {
+        return Err(Refusal::CardRecord);
     }
-    if !lengths {
-        return 2;
+    if !lengths_fit(card, memory, locks.len()) {
+        return Err(Refusal::Lengths);
     }
-    if !locks {
-        return 3;
+    if !locks_fit(locks) {
+        return Err(Refusal::LockByte);
     }
-    if !room {
-        return 4;
+    if !room_fits(card, room) {
+        return Err(Refusal::AnswerRoom);
     }
-    0
-}
-
-// The number of the refusal, or 0 where the call is served.
-pub(crate) fn refusal(card: Card, memory: usize, locks: &[u8], room: usize) -> u8
-    ensures { result ≡ refusal card memory locks.now room }
-{
-    first_number(
-        card.is_accepted(),
-        lengths_fit(card, memory, locks.len()),
-        locks_fit(locks),
-        room_fits(card, room),
-    )
+    Ok(())
 }

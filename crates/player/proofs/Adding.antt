@@ -92,15 +92,13 @@ adds_none at e =
 -- ---- one piece
 
 -- as much of it as there is room for, put
-pub adds_put : (at : ℕ) (s e f : List ℕ) (room count : ℕ) {r : ℤ} → room ≡ min at (length e) → count ≡ min (length e - room) (length s)
-    → PutsText (take count s) e at r f → Adds at s e (at + count) f
+pub adds_put : (at : ℕ) (s e f : List ℕ) (count : ℕ) {r : ℤ} → count ≡ min (length e - at) (length s) → PutsText (take count s) e at r f
+    → Adds at s e (at + count) f
 unfolding cut put_leaves
-adds_put at s e f room count {r} is-room is-count p = go (dec_le at (length e))
+adds_put at s e f count {r} is-count p = go (dec_le at (length e))
   where
     piece : take count s ≡ take (length e - at) s
-    piece =
-        let same : length e - room ≡ length e - at = omega arith in
-        rw (is-count, same) (take_min (length e - at) s)
+    piece = rw is-count (take_min (length e - at) s)
 
     long : length (take count s) ≡ count
     long = length-take-le count s (omega arith)

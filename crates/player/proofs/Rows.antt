@@ -1,9 +1,9 @@
 -- Laws of rows that are put pair after pair: one pair more, and a row on a line of its own. By the list of bytes.
 -- Assumes nothing.
-use Rattle.std.proofs.Common.{◌≡◌, ℕ, suc, ◌+◌, ◌-◌, ◌<◌, List, [], ◌∷◌, ◌++◌, length, get_or, take, drop, sym, refl, ap, ◌∙◌, append_assoc, append-nil, add-one, arith, take_all, take-suc, ne_eqb}
+use Rattle.std.proofs.Common.{◌≡◌, ℕ, suc, ◌+◌, ◌-◌, ◌<◌, ◌≤◌, List, [], ◌∷◌, ◌++◌, length, get_or, take, drop, sym, refl, ap, ◌∙◌, append_assoc, append-nil, add-one, arith, take_all, take-suc}
 use Rattle.digits.specs.Digits.{hex_digits}
 use Rattle.digits.specs.Rows.{row_text}
-use Rattle.player.specs.Answer.{pairs_text, refused_text, silence_text, heard_text, answer_text}
+use Rattle.player.specs.Answer.{pairs_text, silence_text, heard_text}
 
 row_append : (s v : List ℕ) → row_text (s ++ v) ≡ row_text s ++ row_text v
 unfolding row_text
@@ -24,10 +24,10 @@ row_more bytes i h =
     ∙ ap (λ (n : ℕ). row_text (take n bytes)) (sym (add-one i))
 
 -- the first pair after a line feed, the others after spaces
-pub pairs_cons : (bytes : List ℕ) → (length bytes ≡ 0 → ⊥)
+pub pairs_cons : (bytes : List ℕ) → 1 ≤ length bytes
     → (0x0a ∷ hex_digits 2 (get_or bytes 0 0)) ++ row_text (take (length bytes - 1) (drop 1 bytes)) ≡ pairs_text bytes
 unfolding pairs_text
-pairs_cons [] h = absurd (h refl)
+pairs_cons [] h = absurd (omega arith)
 pairs_cons (b ∷ bs) h = rw (take_all (suc (length bs) - 1) bs (omega arith))
 
 pub pairs_none : (bytes : List ℕ) → length bytes ≡ 0 → 0x0a ∷ [] ≡ pairs_text bytes
@@ -37,16 +37,12 @@ pairs_none (b ∷ bs) h = absurd (omega arith)
 
 -- ---- an answer
 
-pub answer_refused : (number : ℕ) (answer : List ℕ) → (number ≡ 0 → ⊥) → refused_text number ≡ answer_text number answer
-unfolding answer_text
-answer_refused number answer h = rw (ne_eqb number 0 h)
+pub heard_silent : (answer : List ℕ) → length answer ≡ 0 → silence_text ≡ heard_text answer
+unfolding heard_text
+heard_silent [] h = refl
+heard_silent (b ∷ bs) h = absurd (omega arith)
 
-pub answer_silent : (number : ℕ) (answer : List ℕ) → number ≡ 0 → length answer ≡ 0 → silence_text ≡ answer_text number answer
-unfolding answer_text heard_text
-answer_silent number [] h k = rw h
-answer_silent number (b ∷ bs) h k = absurd (omega arith)
-
-pub answer_heard : (number : ℕ) (answer : List ℕ) → number ≡ 0 → (length answer ≡ 0 → ⊥) → pairs_text answer ≡ answer_text number answer
-unfolding answer_text heard_text
-answer_heard number [] h k = absurd (k refl)
-answer_heard number (b ∷ bs) h k = rw h
+pub heard_pairs : (answer : List ℕ) → 1 ≤ length answer → pairs_text answer ≡ heard_text answer
+unfolding heard_text
+heard_pairs [] h = absurd (omega arith)
+heard_pairs (b ∷ bs) h = refl

@@ -1,6 +1,9 @@
 -- Steps of private functions: nothing here has to be held against the rules page.
 -- The manual page, Output: an answer as a line of text.
-use Rattle.std.specs.Prelude.{ℕ, cond, List, [], ◌∷◌, ◌++◌, ◌==◌}
+use Rattle.std.specs.Prelude.{ℕ, List, [], ◌∷◌, ◌++◌, Result, Ok, Err}
+use Rattle.std.proofs.Common.{Bor}
+use Rattle.refusals.specs.declared.Refusal.{Refusal}
+use Rattle.refusals.specs.Number.{number}
 use Rattle.digits.specs.Digits.{digit, hex_digits}
 use Rattle.digits.specs.Rows.{row_text}
 
@@ -21,5 +24,7 @@ unfoldable pub heard_text : List ℕ → List ℕ
 heard_text [] = silence_text
 heard_text (b ∷ bs) = pairs_text (b ∷ bs)
 
-unfoldable pub answer_text : ℕ → List ℕ → List ℕ
-answer_text number answer = cond (number == 0) (heard_text answer) (refused_text number)
+-- what came of an event: its answer, or the number of its refusal
+unfoldable pub answer_text : Result (Bor (List ℕ)) Refusal → List ℕ
+answer_text (Ok answer) = heard_text answer.now
+answer_text (Err refusal) = refused_text (number refusal)

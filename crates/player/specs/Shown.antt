@@ -1,11 +1,12 @@
 -- Steps of private functions: nothing here has to be held against the rules page.
 -- The manual page, Output: what is read of an answer as a line of text.
-use Rattle.std.specs.Prelude.{ℕ, cond, List, [], ◌∷◌, ◌++◌, take, ◌==◌}
+use Rattle.std.specs.Prelude.{ℕ, cond, List, [], ◌∷◌, ◌++◌, take, ◌==◌, Result, Ok, Err}
+use Rattle.refusals.specs.declared.Refusal.{Refusal}
 use Rattle.digits.specs.Digits.{hex_digits}
 use Rattle.digits.specs.Rows.{row_text}
 use Rattle.reader.specs.declared.Information.{Information}
 use Rattle.reader.specs.declared.Reading.{Reading}
-use Rattle.reader.specs.declared.Reading.TheVariants.{Nothing, Error, Done, Blocks, Locks, System}
+use Rattle.reader.specs.declared.Reading.TheVariants.{Error, Done, Blocks, Locks, System}
 use Rattle.player.specs.Record.{pair_text}
 
 -- a name and so many digits of a number
@@ -38,10 +39,10 @@ unfoldable pub blocks_text : ℕ → List ℕ → ℕ → List ℕ → List ℕ
 blocks_text n blocks asked locks = first_text (0x0a ∷ 0x62 ∷ 0x6c ∷ 0x6f ∷ 0x63 ∷ 0x6b ∷ 0x73 ∷ []) n blocks ++ lock_text asked locks
 
 -- `not read`, `error` and the code's pair, `done`, the blocks, `lock bytes` and their pairs, or the information
-unfoldable pub reading_text : Reading → List ℕ → ℕ → List ℕ → List ℕ
-reading_text Nothing blocks asked locks = 0x0a ∷ 0x6e ∷ 0x6f ∷ 0x74 ∷ 0x20 ∷ 0x72 ∷ 0x65 ∷ 0x61 ∷ 0x64 ∷ []
-reading_text (Error code) blocks asked locks = pair_text (0x0a ∷ 0x65 ∷ 0x72 ∷ 0x72 ∷ 0x6f ∷ 0x72 ∷ []) code
-reading_text Done blocks asked locks = 0x0a ∷ 0x64 ∷ 0x6f ∷ 0x6e ∷ 0x65 ∷ []
-reading_text (Blocks n) blocks asked locks = blocks_text n blocks asked locks
-reading_text (Locks n) blocks asked locks = first_text (0x0a ∷ 0x6c ∷ 0x6f ∷ 0x63 ∷ 0x6b ∷ 0x20 ∷ 0x62 ∷ 0x79 ∷ 0x74 ∷ 0x65 ∷ 0x73 ∷ []) n locks
-reading_text (System i) blocks asked locks = information_text i
+unfoldable pub reading_text : Result Reading Refusal → List ℕ → ℕ → List ℕ → List ℕ
+reading_text (Err refusal) blocks asked locks = 0x0a ∷ 0x6e ∷ 0x6f ∷ 0x74 ∷ 0x20 ∷ 0x72 ∷ 0x65 ∷ 0x61 ∷ 0x64 ∷ []
+reading_text (Ok (Error code)) blocks asked locks = pair_text (0x0a ∷ 0x65 ∷ 0x72 ∷ 0x72 ∷ 0x6f ∷ 0x72 ∷ []) code
+reading_text (Ok Done) blocks asked locks = 0x0a ∷ 0x64 ∷ 0x6f ∷ 0x6e ∷ 0x65 ∷ []
+reading_text (Ok (Blocks n)) blocks asked locks = blocks_text n blocks asked locks
+reading_text (Ok (Locks n)) blocks asked locks = first_text (0x0a ∷ 0x6c ∷ 0x6f ∷ 0x63 ∷ 0x6b ∷ 0x20 ∷ 0x62 ∷ 0x79 ∷ 0x74 ∷ 0x65 ∷ 0x73 ∷ []) n locks
+reading_text (Ok (System i)) blocks asked locks = information_text i

@@ -1,65 +1,61 @@
 // The input, read in pieces and taken line by line.
-use frames::byte_at;
-use input::Source;
+ghost use Rattle.std.specs.Prelude.{IfOk, IfSome};
+ghost use Rattle.io.specs.Counts.{IsPrefixLen};
 
-// The byte that was taken, or that there is none: the input is over, or a read failed. The bytes of the piece from `at` to `end` are still to be
-// taken. Length is the line's.
-#[derive(Clone, Copy)]
-pub(crate) struct Reading {
-    pub(crate) at: usize,
-    pub(crate) end: usize,
-    pub(crate) length: usize,
-    pub(crate) byte: u8,
-    pub(crate) is_over: bool,
-    pub(crate) failed: bool,
+use input::{Source, Told};
+
+// What is read, or none once it is over. The bytes of the piece from `at` to `end` are still to be taken.
+#[derive(Drop)]
+pub(crate) struct Lines {
+    source: Option<Source>,
+    piece: [u8; 4096],
+    at: usize,
+    end: usize,
 }
 
-impl Reading {
-    pub(crate) fn new() -> Reading {
-        Reading {
+impl Lines {
+    pub(crate) fn new(source: Source) -> Lines {
+        Lines {
+            source: Some(source),
+            piece: [0; 4096],
             at: 0,
             end: 0,
-            length: 0,
-            byte: 0,
-            is_over: false,
-            failed: false,
         }
     }
 
-    // Takes a byte. Where the piece has no more, the next is read.
-    fn next_byte(mut self, rt: &HostRuntime, source: &mut Source, piece: &mut [u8]) -> Reading {
-        if self.at < self.end {
-            self.byte = byte_at(piece, self.at);
-            self.at += 1;
-            return self;
+    // Takes a byte, or none where the input is over. Where the piece has no more, the next is read.
+    fn next_byte(&mut self, rt: &HostRuntime) -> Result<Option<u8>, Told> {
+        if self.at >= self.end {
+            let Some(source) = &mut self.source else {
+                return Ok(None);
+            };
+            self.end = input::read(rt, source, b"espenknoten-player: input", &mut self.piece)?;
+            self.at = 0;
         }
-        let came = input::read(rt, source, b"espenknoten-player: input", piece);
-        self.at = 1;
-        self.end = came.count;
-        self.is_over = came.count == 0;
-        self.failed = came.failed;
-        self.byte = byte_at(piece, 0);
-        self
+        if self.end == 0 {
+            self.source = None;
+            return Ok(None);
+        }
+        let byte = self.piece.get(self.at).copied();
+        self.at += 1;
+        Ok(byte)
     }
 
-    // Takes a line, up to its line feed or the input's end, and no more of it than there is room for.
+    // Takes a line, up to its line feed or the input's end, and no more of it than there is room for. None where nothing is left.
     pub(crate) fn next_line(
-        mut self,
+        &mut self,
         rt: &HostRuntime,
-        source: &mut Source,
-        piece: &mut [u8],
         line: &mut [u8],
-    ) -> Reading {
-        let mut n = 0;
-        while n < line.len() {
-            self = self.next_byte(rt, source, piece);
-            if self.is_over | (self.byte == b'\n') {
-                break;
+    ) -> Result<Option<usize>, Told>
+        ensures { IfOk result (λ taken. IfSome taken (λ n. IsPrefixLen n line.new)) }
+    {
+        for (n, place) in line.iter_mut().enumerate() {
+            match self.next_byte(rt)? {
+                Some(b'\n') => return Ok(Some(n)),
+                Some(byte) => *place = byte,
+                None => return Ok((n > 0).then_some(n)),
             }
-            line[n] = self.byte;
-            n += 1;
         }
-        self.length = n;
-        self
+        Ok(Some(line.len()))
     }
 }

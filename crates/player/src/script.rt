@@ -1,36 +1,33 @@
 // The lines of the script: the one that tells the card, the events, and the words that show it.
-use crate::ask::{ask, is_ask};
-use crate::desk::{play, show_locks, show_memory};
-use crate::told::tell_bad_line;
-use crate::up_to;
-use card::{Card, Held, Mode, Sequence};
-use frames::byte_at;
+ghost use Rattle.io.specs.Counts.{IsPrefixLen};
 
-// What a card is played: a frame of so many bytes, a slot mark, power off.
-#[derive(Clone, Copy)]
-pub(crate) enum Event {
-    Frame(usize),
-    Mark,
-    Off,
+use crate::ask::Ask;
+use crate::tag::{Event, Tag};
+use crate::told::Text;
+use card::{Card, Held, Mode, Sequence};
+use frames::LONGEST_ANSWER;
+use input::Told;
+
+// Why a script ends before its last line: one that can't be read, or a read or a write that failed.
+#[derive(Clone, Copy, Debug, PartialEq, Eq)]
+pub(crate) enum Stop {
+    BadLine,
+    Failed(Told),
+}
+
+impl From<Told> for Stop {
+    fn from(told: Told) -> Stop {
+        Stop::Failed(told)
+    }
 }
 
 // What a line asks for once there is a card.
 #[derive(Clone, Copy)]
-enum Order {
-    Play(Event),
-    Ask,
+enum Order<'a> {
+    Play(Event<'a>),
+    Ask(Ask<'a>),
     Memory,
     Locks,
-    Wrong,
-}
-
-// Where the script stands after a line. It is over after a wrong line and where reading or writing failed.
-#[derive(Clone, Copy)]
-pub(crate) enum Stage {
-    NoCard,
-    Card,
-    BadLine,
-    Failed,
 }
 
 // Two and four digits as a number.
@@ -43,10 +40,13 @@ fn two_pairs(line: &[u8], at: usize) -> u32 {
 }
 
 // `card UID BLOCKS SIZE AFI DSFID IC`: such a card, in Ready.
-fn card_of(line: &[u8]) -> Card {
-    Card {
+fn card_of(line: &[u8]) -> Option<Card> {
+    if !digits::has_form(line, b"card XXXXXXXXXXXXXXXX XXXX XX XX XX XX") {
+        return None;
+    }
+    Some(Card {
         blocks: two_pairs(line, 22),
-        size: pair(line, 27) as u32,
+        size: u32::from(pair(line, 27)),
         uid: digits::number(line, 5, 16),
         afi: pair(line, 30),
         dsfid: pair(line, 33),
@@ -56,159 +56,91 @@ fn card_of(line: &[u8]) -> Card {
         mode: Mode::Ready,
         sequence: Sequence::Idle,
         held: Held::Free,
+    })
+}
+
+// What follows a form that a line begins with.
+pub(crate) fn after<'a>(form: &[u8], line: &'a [u8]) -> Option<&'a [u8]> {
+    let (start, rest) = line.split_at_checked(form.len())?;
+    digits::has_form(start, form).then_some(rest)
+}
+
+// The row of pairs after a word.
+fn row_after<'a>(word: &[u8], line: &'a [u8]) -> Option<&'a [u8]> {
+    after(word, line).filter(|row| digits::is_row(row))
+}
+
+// Puts the bytes of a row into a buffer, and returns how many they are. There is room for those of any line.
+pub(crate) fn read_row(row: &[u8], buffer: &mut [u8]) -> usize
+    ensures { IsPrefixLen result buffer.new }
+{
+    let n = digits::read_row(row, buffer).unwrap_or(0);
+    n.min(buffer.len())
+}
+
+fn order_of<'a>(line: &'a [u8], frame: &'a mut [u8]) -> Option<Order<'a>> {
+    if let Some(row) = row_after(b"frame", line) {
+        let n = read_row(row, frame);
+        return Some(Order::Play(Event::Frame(&frame[..n])));
+    }
+    if let Some(row) = row_after(b"seal", line) {
+        let n = read_row(row, frame);
+        let sealed = frames::seal(frame, n).unwrap_or(0).min(frame.len());
+        return Some(Order::Play(Event::Frame(&frame[..sealed])));
+    }
+    if let Some(ask) = Ask::of(line) {
+        return Some(Order::Ask(ask));
+    }
+    match line {
+        b"mark" => Some(Order::Play(Event::Mark)),
+        b"off" => Some(Order::Play(Event::Off)),
+        b"memory" => Some(Order::Memory),
+        b"locks" => Some(Order::Locks),
+        _ => None,
     }
 }
 
-// An order of one word.
-fn short_order(line: &[u8]) -> Order {
-    if digits::has_form(line, b"mark") {
-        return Order::Play(Event::Mark);
-    }
-    if digits::has_form(line, b"off") {
-        return Order::Play(Event::Off);
-    }
-    if digits::has_form(line, b"memory") {
-        return Order::Memory;
-    }
-    if digits::has_form(line, b"locks") {
-        return Order::Locks;
-    }
-    Order::Wrong
+// Plays an event, and tells the line, the answer to it and the record after it.
+fn play(rt: &HostRuntime, line: &[u8], event: Event, tag: &mut Tag) -> Result<(), Told> {
+    let mut room = [0u8; LONGEST_ANSWER];
+    let mut text = Text::new();
+    text.put(line);
+    text.put_answer(tag.play(event, &mut room));
+    text.tell_record(rt, tag.card())
 }
 
-// Whether a line is a word and a row of pairs.
-fn is_row_after(word: &[u8], line: &[u8]) -> bool {
-    let at = up_to(word.len(), line);
-    digits::has_form(&line[..at], word) & digits::is_row(&line[at..])
+// Tells a line of the script, and bytes, so many on a line.
+fn show(rt: &HostRuntime, line: &[u8], size: usize, bytes: &[u8]) -> Result<(), Told> {
+    let mut text = Text::new();
+    text.put(line);
+    text.put_blocks(size, bytes);
+    text.write(rt)
 }
 
-// The bytes of the row after a word, put into a frame: how many they are.
-fn frame_after(word: &[u8], line: &[u8], frame: &mut [u8]) -> usize {
-    let at = up_to(word.len(), line);
-    io::count(digits::read_row(&line[at..], frame) as isize, frame)
+// Does what a line orders.
+fn obey(rt: &HostRuntime, line: &[u8], tag: &mut Tag) -> Result<(), Stop> {
+    let mut frame = [0u8; 86];
+    match order_of(line, &mut frame).ok_or(Stop::BadLine)? {
+        Order::Play(event) => play(rt, line, event, tag)?,
+        Order::Ask(ask) => ask.play(rt, line, tag)?,
+        Order::Memory => show(rt, line, tag.size(), tag.memory())?,
+        Order::Locks => show(rt, line, 256, tag.locks())?,
+    }
+    Ok(())
 }
 
-fn order_of(line: &[u8], frame: &mut [u8]) -> Order {
-    if is_row_after(b"frame", line) {
-        let n = frame_after(b"frame", line, frame);
-        return Order::Play(Event::Frame(n));
+// Hears a line. The first tells the tag; one that is empty or starts with # is passed over.
+pub(crate) fn hear(rt: &HostRuntime, line: &[u8], tag: &mut Option<Tag>) -> Result<(), Stop> {
+    if line.len() > 256 {
+        return Err(Stop::BadLine);
     }
-    if is_row_after(b"seal", line) {
-        let n = frame_after(b"seal", line, frame);
-        let sealed = io::count(frames::seal(frame, n) as isize, frame);
-        return Order::Play(Event::Frame(sealed));
+    if matches!(line, [] | [b'#', ..]) {
+        return Ok(());
     }
-    if is_ask(line) {
-        return Order::Ask;
+    if let Some(tag) = tag {
+        return obey(rt, line, tag);
     }
-    short_order(line)
-}
-
-// The card, and where the script stands.
-#[derive(Clone, Copy)]
-pub(crate) struct Desk {
-    pub(crate) card: Card,
-    pub(crate) stage: Stage,
-}
-
-// The desk after a line that was told, or could not be.
-pub(crate) fn after(card: Card, is_told: bool) -> Desk {
-    if is_told {
-        return Desk {
-            card: card,
-            stage: Stage::Card,
-        };
-    }
-    Desk {
-        card: card,
-        stage: Stage::Failed,
-    }
-}
-
-impl Desk {
-    pub(crate) fn new() -> Desk {
-        Desk {
-            card: card_of(b""),
-            stage: Stage::NoCard,
-        }
-    }
-
-    fn ended(self, stage: Stage) -> Desk {
-        let card = self.card;
-        Desk {
-            card: card,
-            stage: stage,
-        }
-    }
-
-    fn hear_card(self, line: &[u8]) -> Desk {
-        if !digits::has_form(line, b"card XXXXXXXXXXXXXXXX XXXX XX XX XX XX") {
-            return self.ended(Stage::BadLine);
-        }
-        Desk {
-            card: card_of(line),
-            stage: Stage::Card,
-        }
-    }
-
-    fn hear_order(
-        self,
-        rt: &HostRuntime,
-        line: &[u8],
-        memory: &mut [u8],
-        locks: &mut [u8],
-    ) -> Desk {
-        let mut frame = [0u8; 86];
-        let card = self.card;
-        let order = order_of(line, &mut frame);
-        match order {
-            Order::Play(event) => play(rt, event, line, &frame, card, memory, locks),
-            Order::Ask => ask(rt, line, card, memory, locks),
-            Order::Memory => after(card, show_memory(rt, line, card, memory)),
-            Order::Locks => after(card, show_locks(rt, line, card, locks)),
-            Order::Wrong => self.ended(Stage::BadLine),
-        }
-    }
-
-    // Hears a line; one whose reading failed is no line.
-    pub(crate) fn hear_line(
-        self,
-        rt: &HostRuntime,
-        line: &[u8],
-        failed: bool,
-        memory: &mut [u8],
-        locks: &mut [u8],
-    ) -> Desk {
-        if failed {
-            return self.ended(Stage::Failed);
-        }
-        if line.len() > 256 {
-            return self.ended(Stage::BadLine);
-        }
-        if (line.len() == 0) | (byte_at(line, 0) == b'#') {
-            return self;
-        }
-        let stage = self.stage;
-        match stage {
-            Stage::NoCard => self.hear_card(line),
-            _ => self.hear_order(rt, line, memory, locks),
-        }
-    }
-
-    pub(crate) fn is_over(self) -> bool {
-        let stage = self.stage;
-        match stage {
-            Stage::NoCard => false,
-            Stage::Card => false,
-            _ => true,
-        }
-    }
-
-    // Tells the number of a line that can't be read.
-    pub(crate) fn tell_end(self, rt: &HostRuntime, number: u64) {
-        let stage = self.stage;
-        if let Stage::BadLine = stage {
-            tell_bad_line(rt, number);
-        }
-    }
+    let card = card_of(line).ok_or(Stop::BadLine)?;
+    *tag = Some(Tag::new(card));
+    Ok(())
 }

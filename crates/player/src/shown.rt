@@ -2,90 +2,85 @@
 ghost use Rattle.std.specs.Prelude.{◌≤◌, ◌++◌, take};
 ghost use Rattle.digits.specs.Digits.{hex_digits};
 ghost use Rattle.digits.specs.Rows.{row_text};
-ghost use Rattle.player.specs.Text.{Adds};
+ghost use Rattle.player.specs.Text.{Grows};
 ghost use Rattle.player.specs.Shown.{shape_text, information_text, lock_text, blocks_text, reading_text};
 
-use crate::least;
-use crate::told::{put, put_named, put_pair};
+use crate::told::Text;
 use reader::{Information, Reading};
+use refusals::Refusal;
 
-// Puts a name and up to sixteen low digits of a number.
-fn put_digits(name: &[u8], n: u64, count: usize, text: &mut [u8], at: usize) -> usize
-    requires { count ≤ 16 }
-    ensures { Adds at (name.now ++ hex_digits count n) text.old result text.new }
-{
-    let mut digits = [0u8; 16];
-    digits::put_digits(n, count, &mut digits, 0);
-    let next = put(name, text, at);
-    put(&digits[..count], text, next)
-}
-
-// Puts a name and the row for the first n bytes.
-fn put_first(name: &[u8], n: usize, bytes: &[u8], text: &mut [u8], at: usize) -> usize
-    ensures { Adds at (name.now ++ row_text (take n bytes.now)) text.old result text.new }
-{
-    let count = least(n, bytes.len());
-    put_named(name, &bytes[..count], text, at)
-}
-
-fn put_shape(blocks: u16, size: u16, text: &mut [u8], at: usize) -> usize
-    ensures { Adds at (shape_text blocks size) text.old result text.new }
-{
-    let next = put_digits(b", blocks ", blocks as u64, 4, text, at);
-    put_digits(b", size ", size as u64, 2, text, next)
-}
-
-fn put_information(shown: Information, text: &mut [u8], at: usize) -> usize
-    ensures { Adds at (information_text shown) text.old result text.new }
-{
-    let uid_end = put_digits(b"\ninformation UID ", shown.uid, 16, text, at);
-    let dsfid_end = put_pair(b", DSFID", shown.dsfid, text, uid_end);
-    let afi_end = put_pair(b", AFI", shown.afi, text, dsfid_end);
-    let shape_end = put_shape(shown.blocks, shown.size, text, afi_end);
-    put_pair(b", IC", shown.ic_reference, text, shape_end)
-}
-
-// So many lock bytes of blocks, if there are any.
-fn put_locks(n: usize, locks: &[u8], text: &mut [u8], at: usize) -> usize
-    ensures { Adds at (lock_text n locks.now) text.old result text.new }
-{
-    if n == 0 {
-        return at;
+impl Text {
+    // Adds a name and up to sixteen low digits of a number.
+    fn put_digits(&mut self, name: &[u8], n: u64, count: usize)
+        requires { count ≤ 16 }
+        ensures { Grows (name.now ++ hex_digits count n) self.old self.new }
+    {
+        let mut digits = [0u8; 16];
+        // Sixteen bytes have room for the digits.
+        let _ = digits::put_digits(n, count, &mut digits, 0);
+        self.put(name);
+        self.put(&digits[..count]);
     }
-    put_first(b", lock bytes", n, locks, text, at)
-}
 
-fn put_blocks(
-    n: usize,
-    blocks: &[u8],
-    asked: usize,
-    locks: &[u8],
-    text: &mut [u8],
-    at: usize,
-) -> usize
-    ensures { Adds at (blocks_text n blocks.now asked locks.now) text.old result text.new }
-{
-    let next = put_first(b"\nblocks", n, blocks, text, at);
-    put_locks(asked, locks, text, next)
-}
+    // Adds a name and the row for the first n bytes.
+    fn put_first(&mut self, name: &[u8], n: usize, bytes: &[u8])
+        ensures { Grows (name.now ++ row_text (take n bytes.now)) self.old self.new }
+    {
+        self.put_named(name, &bytes[..n.min(bytes.len())]);
+    }
 
-// What was read, on the next line. Asked is how many lock bytes the blocks have with them.
-pub(crate) fn put_reading(
-    reading: Reading,
-    blocks: &[u8],
-    asked: usize,
-    locks: &[u8],
-    text: &mut [u8],
-    at: usize,
-) -> usize
-    ensures { Adds at (reading_text reading blocks.now asked locks.now) text.old result text.new }
-{
-    match reading {
-        Reading::Nothing => put(b"\nnot read", text, at),
-        Reading::Error(code) => put_pair(b"\nerror", code, text, at),
-        Reading::Done => put(b"\ndone", text, at),
-        Reading::Blocks(n) => put_blocks(n as usize, blocks, asked, locks, text, at),
-        Reading::Locks(n) => put_first(b"\nlock bytes", n as usize, locks, text, at),
-        Reading::System(shown) => put_information(shown, text, at),
+    fn put_shape(&mut self, blocks: u16, size: u16)
+        ensures { Grows (shape_text blocks size) self.old self.new }
+    {
+        self.put_digits(b", blocks ", u64::from(blocks), 4);
+        self.put_digits(b", size ", u64::from(size), 2);
+    }
+
+    fn put_information(&mut self, shown: Information)
+        ensures { Grows (information_text shown) self.old self.new }
+    {
+        self.put_digits(b"\ninformation UID ", shown.uid, 16);
+        self.put_pair(b", DSFID", shown.dsfid);
+        self.put_pair(b", AFI", shown.afi);
+        self.put_shape(shown.blocks, shown.size);
+        self.put_pair(b", IC", shown.ic_reference);
+    }
+
+    // So many lock bytes of blocks, if there are any.
+    #[tactic(auto, unfolding(crate::specs::Shown::lock_text))]
+    fn put_locks(&mut self, n: usize, locks: &[u8])
+        ensures { Grows (lock_text n locks.now) self.old self.new }
+    {
+        if n > 0 {
+            self.put_first(b", lock bytes", n, locks);
+        }
+    }
+
+    fn put_read_blocks(&mut self, n: usize, blocks: &[u8], asked: usize, locks: &[u8])
+        ensures { Grows (blocks_text n blocks.now asked locks.now) self.old self.new }
+    {
+        self.put_first(b"\nblocks", n, blocks);
+        self.put_locks(asked, locks);
+    }
+
+    // What was read, on the next line. Asked is how many lock bytes the blocks have with them.
+    #[tactic(auto, unfolding(crate::specs::Shown::reading_text))]
+    pub(crate) fn put_reading(
+        &mut self,
+        reading: Result<Reading, Refusal>,
+        blocks: &[u8],
+        asked: usize,
+        locks: &[u8],
+    )
+        ensures { Grows (reading_text reading blocks.now asked locks.now) self.old self.new }
+    {
+        match reading {
+            Err(_) => self.put(b"\nnot read"),
+            Ok(Reading::Error(code)) => self.put_pair(b"\nerror", code),
+            Ok(Reading::Done) => self.put(b"\ndone"),
+            Ok(Reading::Blocks(n)) => self.put_read_blocks(n as usize, blocks, asked, locks),
+            Ok(Reading::Locks(n)) => self.put_first(b"\nlock bytes", n as usize, locks),
+            Ok(Reading::System(shown)) => self.put_information(shown),
+        }
     }
 }

@@ -2,220 +2,220 @@
 ghost use Rattle.std.specs.Prelude.{[], ◌∷◌, ◌++◌};
 ghost use Rattle.digits.specs.Digits.{hex_digits};
 ghost use Rattle.digits.specs.Rows.{row_text};
-ghost use Rattle.player.specs.Text.{Adds};
-ghost use Rattle.player.specs.Answer.{pairs_text, refused_text, answer_text};
+ghost use Rattle.refusals.specs.Number.{number};
+ghost use Rattle.player.specs.Text.{Grows};
+ghost use Rattle.player.specs.Answer.{pairs_text, refused_text, heard_text, answer_text};
 ghost use Rattle.player.specs.Record.{mode_text, mask_text, running_text, sequence_text, held_text, kept_text, record_text};
 
-use crate::{least, up_to};
 use card::{Card, Held, Mode, Sequence};
 use frames::LONGEST_ANSWER;
-use play::Served;
+use input::Told;
+use refusals::Refusal;
 
 // Room for all that is told of a line: its 256 bytes, a request of 45, an answer and what is read of it in three for each byte, and the words of
 // that and of a record, less than 256.
-pub(crate) const MOST_TOLD: usize = 256 + 3 * (45 + LONGEST_ANSWER + 8192 + 256) + 256;
+const MOST_TOLD: usize = 256 + 3 * (45 + LONGEST_ANSWER + 8192 + 256) + 256;
 
-// Puts bytes at a place of a text, as many as it has room for, and returns the place after them.
-pub(crate) fn put(bytes: &[u8], text: &mut [u8], at: usize) -> usize
-    ensures { Adds at bytes.now text.old result text.new }
-{
-    let count = least(text.len() - least(at, text.len()), bytes.len());
-    digits::put_bytes(&bytes[..count], text, at);
-    at + count
+// A text that is put together piece by piece, and cut off where there is no room left.
+#[derive(Drop)]
+pub(crate) struct Text {
+    bytes: [u8; MOST_TOLD],
+    at: usize,
 }
 
-// Puts the pair for a byte after another byte: a space, or the line feed before a line.
-fn put_byte(before: u8, b: u8, text: &mut [u8], at: usize) -> usize
-    ensures { Adds at (before ∷ hex_digits 2 b) text.old result text.new }
-{
-    let n = b as u64;
-    let three = [before, digits::digit(n / 16), digits::digit(n)];
-    put(&three, text, at)
-}
-
-// Puts the row for bytes.
-fn put_row(bytes: &[u8], text: &mut [u8], at: usize) -> usize
-    ensures { Adds at (row_text bytes.now) text.old result text.new }
-{
-    let mut next = at;
-    let mut i = 0;
-    while i < bytes.len() {
-        next = put_byte(b' ', bytes[i], text, next);
-        i += 1;
+impl Text {
+    pub(crate) fn new() -> Text {
+        Text {
+            bytes: [0; MOST_TOLD],
+            at: 0,
+        }
     }
-    next
-}
 
-pub(crate) fn put_named(name: &[u8], bytes: &[u8], text: &mut [u8], at: usize) -> usize
-    ensures { Adds at (name.now ++ row_text bytes.now) text.old result text.new }
-{
-    let next = put(name, text, at);
-    put_row(bytes, text, next)
-}
-
-pub(crate) fn put_pair(name: &[u8], b: u8, text: &mut [u8], at: usize) -> usize
-    ensures { Adds at (name.now ++ row_text (b ∷ [])) text.old result text.new }
-{
-    let one = [b];
-    put_named(name, &one, text, at)
-}
-
-// Puts the pairs for bytes on the next line, with single spaces between them.
-pub(crate) fn put_pairs(bytes: &[u8], text: &mut [u8], at: usize) -> usize
-    ensures { Adds at (pairs_text bytes.now) text.old result text.new }
-{
-    if bytes.len() == 0 {
-        return put(b"\n", text, at);
+    // Adds bytes, as many as there is room for.
+    pub(crate) fn put(&mut self, bytes: &[u8])
+        ensures { Grows bytes.now self.old self.new }
+    {
+        let count = self.bytes.len().saturating_sub(self.at).min(bytes.len());
+        // These fit: no more are put than there is room for.
+        let _ = digits::put_bytes(&bytes[..count], &mut self.bytes, self.at);
+        self.at += count;
     }
-    let next = put_byte(b'\n', bytes[0], text, at);
-    put_row(&bytes[1..], text, next)
-}
 
-fn put_mode(mode: Mode, text: &mut [u8], at: usize) -> usize
-    ensures { Adds at (mode_text mode) text.old result text.new }
-{
-    match mode {
-        Mode::Ready => put(b"\n  mode Ready", text, at),
-        Mode::Quiet => put(b"\n  mode Quiet", text, at),
-        Mode::Selected => put(b"\n  mode Selected", text, at),
+    // Adds the pair for a byte after another byte: a space, or the line feed before a line.
+    #[tactic(auto, unfolding(digits::specs::Digits::hex_digits))]
+    fn put_byte(&mut self, before: u8, b: u8)
+        ensures { Grows (before ∷ hex_digits 2 b) self.old self.new }
+    {
+        let n = u64::from(b);
+        self.put(&[before, digits::digit(n / 16), digits::digit(n)]);
     }
-}
 
-fn put_mask(mask: u64, text: &mut [u8], at: usize) -> usize
-    ensures { Adds at (mask_text mask) text.old result text.new }
-{
-    let mut bytes = [0u8; 8];
-    frames::put_field(&mut bytes, 0, 8, mask);
-    put_named(b", mask", &bytes, text, at)
-}
-
-// A sequence that runs.
-fn put_running(slot: u8, length: u8, mask: u64, text: &mut [u8], at: usize) -> usize
-    ensures { Adds at (running_text slot length mask) text.old result text.new }
-{
-    let next = put_pair(b", slot", slot, text, at);
-    let last = put_pair(b", mask length", length, text, next);
-    put_mask(mask, text, last)
-}
-
-// The sequence, if one runs.
-fn put_sequence(sequence: Sequence, text: &mut [u8], at: usize) -> usize
-    ensures { Adds at (sequence_text sequence) text.old result text.new }
-{
-    match sequence {
-        Sequence::Idle => at,
-        Sequence::Running(slot, length, mask) => put_running(slot, length, mask, text, at),
+    // Adds the row for bytes.
+    fn put_row(&mut self, bytes: &[u8])
+        ensures { Grows (row_text bytes.now) self.old self.new }
+    {
+        for b in bytes {
+            self.put_byte(b' ', *b);
+        }
     }
-}
 
-// The held answer, if there is one.
-fn put_held(held: Held, text: &mut [u8], at: usize) -> usize
-    ensures { Adds at (held_text held) text.old result text.new }
-{
-    match held {
-        Held::Free => at,
-        Held::Success => put(b", held success", text, at),
-        Held::Code(code) => put_pair(b", held error", code, text, at),
+    pub(crate) fn put_named(&mut self, name: &[u8], bytes: &[u8])
+        ensures { Grows (name.now ++ row_text bytes.now) self.old self.new }
+    {
+        self.put(name);
+        self.put_row(bytes);
     }
-}
 
-// A byte of the record that may be locked.
-fn put_kept(name: &[u8], b: u8, locked: bool, text: &mut [u8], at: usize) -> usize
-    ensures { Adds at (kept_text name.now b locked) text.old result text.new }
-{
-    let next = put_pair(name, b, text, at);
-    if locked {
-        return put(b" locked", text, next);
+    pub(crate) fn put_pair(&mut self, name: &[u8], b: u8)
+        ensures { Grows (name.now ++ row_text (b ∷ [])) self.old self.new }
+    {
+        self.put_named(name, &[b]);
     }
-    next
-}
 
-// The record, on the next line.
-fn put_record(card: Card, text: &mut [u8], at: usize) -> usize
-    ensures { Adds at (record_text card) text.old result text.new }
-{
-    let mode = card.mode;
-    let sequence = card.sequence;
-    let held = card.held;
-    let mode_end = put_mode(mode, text, at);
-    let sequence_end = put_sequence(sequence, text, mode_end);
-    let held_end = put_held(held, text, sequence_end);
-    let afi_end = put_kept(b", AFI", card.afi, card.afi_locked, text, held_end);
-    put_kept(b", DSFID", card.dsfid, card.dsfid_locked, text, afi_end)
-}
-
-// The number of a refusal, on the next line.
-pub(crate) fn put_refused(number: u8, text: &mut [u8], at: usize) -> usize
-    ensures { Adds at (refused_text number) text.old result text.new }
-{
-    let one = [digits::digit(number as u64)];
-    let next = put(b"\nrefused ", text, at);
-    put(&one, text, next)
-}
-
-// The answer, silence, or the number of the refusal, on the next line.
-pub(crate) fn put_answer(number: u8, answer: &[u8], text: &mut [u8], at: usize) -> usize
-    ensures { Adds at (answer_text number answer.now) text.old result text.new }
-{
-    if number != 0 {
-        return put_refused(number, text, at);
+    // Adds the pairs for bytes on the next line, with single spaces between them.
+    #[tactic(auto, unfolding(crate::specs::Answer::pairs_text))]
+    pub(crate) fn put_pairs(&mut self, bytes: &[u8])
+        ensures { Grows (pairs_text bytes.now) self.old self.new }
+    {
+        match bytes {
+            [] => self.put(b"\n"),
+            [first, rest @ ..] => {
+                self.put_byte(b'\n', *first);
+                self.put_row(rest);
+            }
+        }
     }
-    if answer.len() == 0 {
-        return put(b"\nsilence", text, at);
+
+    #[tactic(auto, unfolding(crate::specs::Record::mode_text))]
+    fn put_mode(&mut self, mode: Mode)
+        ensures { Grows (mode_text mode) self.old self.new }
+    {
+        match mode {
+            Mode::Ready => self.put(b"\n  mode Ready"),
+            Mode::Quiet => self.put(b"\n  mode Quiet"),
+            Mode::Selected => self.put(b"\n  mode Selected"),
+        }
     }
-    put_pairs(answer, text, at)
-}
 
-// Puts bytes, so many on a line.
-fn put_blocks(size: usize, bytes: &[u8], text: &mut [u8], at: usize) -> usize {
-    if size == 0 {
-        return at;
+    fn put_mask(&mut self, mask: u64)
+        ensures { Grows (mask_text mask) self.old self.new }
+    {
+        self.put_named(b", mask", &mask.to_le_bytes());
     }
-    let mut next = at;
-    let mut from = 0;
-    while from < bytes.len() {
-        let to = from + least(size, bytes.len() - from);
-        next = put_pairs(&bytes[from..to], text, next);
-        from = to;
+
+    // A sequence that runs.
+    fn put_running(&mut self, slot: u8, length: u8, mask: u64)
+        ensures { Grows (running_text slot length mask) self.old self.new }
+    {
+        self.put_pair(b", slot", slot);
+        self.put_pair(b", mask length", length);
+        self.put_mask(mask);
     }
-    next
-}
 
-// Writes a text with a line feed after it. A write that fails is told.
-fn write(rt: &HostRuntime, text: &mut [u8], at: usize) -> bool {
-    let n = up_to(put(b"\n", text, at), text);
-    let written = rt.write_all(&text[..n]);
-    input::wrote(rt, b"espenknoten-player: standard output", written)
-}
+    // The sequence, if one runs.
+    #[tactic(auto, unfolding(crate::specs::Record::sequence_text))]
+    fn put_sequence(&mut self, sequence: Sequence)
+        ensures { Grows (sequence_text sequence) self.old self.new }
+    {
+        match sequence {
+            Sequence::Idle => {}
+            Sequence::Running(slot, length, mask) => self.put_running(slot, length, mask),
+        }
+    }
 
-// Ends what is told of an event with the record after it.
-pub(crate) fn tell_record(rt: &HostRuntime, card: Card, text: &mut [u8], at: usize) -> bool {
-    let end = put_record(card, text, at);
-    write(rt, text, end)
-}
+    // The held answer, if there is one.
+    #[tactic(auto, unfolding(crate::specs::Record::held_text))]
+    fn put_held(&mut self, held: Held)
+        ensures { Grows (held_text held) self.old self.new }
+    {
+        match held {
+            Held::Free => {}
+            Held::Success => self.put(b", held success"),
+            Held::Code(code) => self.put_pair(b", held error", code),
+        }
+    }
 
-// Tells a line of the script, the answer to it and the record after it.
-pub(crate) fn tell(rt: &HostRuntime, line: &[u8], served: Served, room: &[u8]) -> bool {
-    let mut text = [0u8; MOST_TOLD];
-    let heard = put(line, &mut text, 0);
-    let n = up_to(served.length, room);
-    let answer = put_answer(served.number, &room[..n], &mut text, heard);
-    let card = served.card;
-    tell_record(rt, card, &mut text, answer)
-}
+    // A byte of the record that may be locked.
+    #[tactic(auto, unfolding(crate::specs::Record::kept_text))]
+    fn put_kept(&mut self, name: &[u8], b: u8, is_locked: bool)
+        ensures { Grows (kept_text name.now b is_locked) self.old self.new }
+    {
+        self.put_pair(name, b);
+        if is_locked {
+            self.put(b" locked");
+        }
+    }
 
-// Tells a line of the script, and bytes, so many on a line.
-pub(crate) fn tell_blocks(rt: &HostRuntime, line: &[u8], size: usize, bytes: &[u8]) -> bool {
-    let mut text = [0u8; MOST_TOLD];
-    let heard = put(line, &mut text, 0);
-    let end = put_blocks(size, bytes, &mut text, heard);
-    write(rt, &mut text, end)
+    // The record, on the next line.
+    fn put_record(&mut self, card: Card)
+        ensures { Grows (record_text card) self.old self.new }
+    {
+        self.put_mode(card.mode);
+        self.put_sequence(card.sequence);
+        self.put_held(card.held);
+        self.put_kept(b", AFI", card.afi, card.afi_locked);
+        self.put_kept(b", DSFID", card.dsfid, card.dsfid_locked);
+    }
+
+    // The number of a refusal, on the next line.
+    pub(crate) fn put_refused(&mut self, refusal: Refusal)
+        ensures { Grows (refused_text (number refusal)) self.old self.new }
+    {
+        self.put(b"\nrefused ");
+        self.put(&[digits::digit(u64::from(refusal.number()))]);
+    }
+
+    // An answer, or silence, on the next line.
+    fn put_heard(&mut self, answer: &[u8])
+        ensures { Grows (heard_text answer.now) self.old self.new }
+    {
+        match answer {
+            [] => self.put(b"\nsilence"),
+            [_, ..] => self.put_pairs(answer),
+        }
+    }
+
+    // What came of an event: its answer, or the number of its refusal.
+    #[tactic(auto, unfolding(crate::specs::Answer::answer_text))]
+    pub(crate) fn put_answer(&mut self, answer: Result<&[u8], Refusal>)
+        ensures { Grows (answer_text answer.entry) self.old self.new }
+    {
+        match answer {
+            Ok(answer) => self.put_heard(answer),
+            Err(refusal) => self.put_refused(refusal),
+        }
+    }
+
+    // Adds bytes, so many on a line.
+    pub(crate) fn put_blocks(&mut self, size: usize, bytes: &[u8]) {
+        if size > 0 {
+            for block in bytes.chunks(size) {
+                self.put_pairs(block);
+            }
+        }
+    }
+
+    // Writes the text with a line feed after it. A write that fails is told.
+    pub(crate) fn write(mut self, rt: &HostRuntime) -> Result<(), Told> {
+        self.put(b"\n");
+        let n = self.at.min(self.bytes.len());
+        let written = rt.write_all(&self.bytes[..n]);
+        input::wrote(rt, b"espenknoten-player: standard output", written)
+    }
+
+    // Ends what is told of an event with the record after it.
+    pub(crate) fn tell_record(mut self, rt: &HostRuntime, card: Card) -> Result<(), Told> {
+        self.put_record(card);
+        self.write(rt)
+    }
 }
 
 // Tells the number of a line that can't be read.
-pub(crate) fn tell_bad_line(rt: &HostRuntime, number: u64) {
-    let mut text = [0u8; 32];
-    let at = put(b"bad line ", &mut text, 0);
-    let end = io::count(digits::put_decimal(number, &mut text, at) as isize, &text);
-    write(rt, &mut text, end);
+pub(crate) fn tell_bad_line(rt: &HostRuntime, number: u64) -> Result<(), Told> {
+    let mut text = Text::new();
+    let mut decimal = [0u8; 20];
+    let n = digits::put_decimal(number, &mut decimal, 0).unwrap_or(0);
+    text.put(b"bad line ");
+    text.put(&decimal[..n.min(decimal.len())]);
+    text.write(rt)
 }

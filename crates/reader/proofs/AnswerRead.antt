@@ -10,6 +10,7 @@ use borrow.Author.Tests.{le-leb, eq-eqb, ne_eqb}
 use lib.Dec.{eqb}
 use lib.ListN.{length, get_or}
 use lib.Seq.{take_at}
+use Rattle.std.specs.Prelude.{Some}
 use Rattle.crc.specs.Check.{sealed, check_bytes}
 use Rattle.crc.proofs.Seal.{length_sealed, is_sealed_of_sealed}
 use Rattle.frames.specs.Frame.{shortest_answer}
@@ -78,6 +79,6 @@ module _ (q : Request) (is : is_request q ≡ true) (found found' : List ℕ) (r
   unfolding reading
   part_read part long told = rw (served (sealed (0x00 ∷ part)) (is_answer_of_part q part long told), sealed_first, part_of_sealed) refl
 
-  pub code_read : (code : ℕ) → reading q (sealed (0x01 ∷ code ∷ [])) found found' ≡ outcome 0 (Error code) found found'
+  pub code_read : (code : ℕ) → reading q (sealed (0x01 ∷ code ∷ [])) found found' ≡ outcome 0 (Some (Error code)) found found'
   unfolding reading
   code_read code = rw (served (sealed (0x01 ∷ code ∷ [])) (is_answer_of_code q code), sealed_first, sealed_second) refl

@@ -7,6 +7,8 @@ use native.Mathlib.Omega.{arith}
 use borrow.Author.Tests.{eqb-true}
 use lib.Dec.{eqb}
 use lib.ListN.{set}
+use Rattle.std.specs.Prelude.{Result}
+use Rattle.refusals.specs.declared.Refusal.{Refusal}
 use Rattle.lent.specs.Lent.{placed}
 use Rattle.card.specs.declared.Card.{Card}
 use Rattle.card.specs.declared.Held.{Held}
@@ -17,7 +19,7 @@ use Rattle.card.specs.Record.{remade, cleared, in_mode, holding, with_afi, with_
 use Rattle.commands.specs.declared.Effect.TheVariants.{Leave, Write, Lock}
 use Rattle.play.specs.declared.Served.{Served}
 use Rattle.play.specs.Effects.{locks_after}
-use Rattle.play.specs.Events.{replied}
+use Rattle.play.specs.Events.{replied, card_after}
 use Rattle.reader.specs.declared.Request.{Request}
 use Rattle.reader.specs.Request.{frame}
 use Rattle.reader.specs.Shown.{is_called, is_held, mistakes_option, is_outside, relocks, writes_locked, code_of, memory_written, locks_set, mode_gone, byte_written, lock_set, Does}
@@ -95,7 +97,7 @@ locks_after_lem q locks = go (eqb q.command 0x21) (eqb q.command 0x22) refl refl
     go false true p r = refl
     go false false p r = refl
 
-module _ {q : Request} {written : List ℕ} {c : Card} {memory locks found : List ℕ} {r : Served} {m l a : List ℕ}
+module _ {q : Request} {written : List ℕ} {c : Card} {memory locks found : List ℕ} {r : Result Served Refusal} {m l a : List ℕ}
     (met : Meets q written c memory locks found r m l a) (z : code_of c locks q ≡ 0) where
   memory_after_lem : (d : Card) (spoken : Reply) → Kept c d → Ends met d (effect_of q) spoken → m ≡ memory_written q written memory
   unfolding replied memory_written
@@ -109,7 +111,7 @@ module _ {q : Request} {written : List ℕ} {c : Card} {memory locks found : Lis
       go false e = p.memory_left ∙ stored_nothing q d (frame q written) memory e
 
   -- d is the card that was changed, held or not
-  does_of : (d : Card) (spoken : Reply) → Kept c d → CardDoes q c d → Ends met d (effect_of q) spoken → Does q written c memory locks r.card m l
+  does_of : (d : Card) (spoken : Reply) → Kept c d → CardDoes q c d → Ends met d (effect_of q) spoken → Does q written c memory locks (card_after c r) m l
   unfolding replied
   does_of d spoken kept does p =
       record {
@@ -129,10 +131,10 @@ module _ {q : Request} {written : List ℕ} {c : Card} {memory locks found : Lis
   changed : CardDoes q c (changed_by q (cleared c))
   changed = card_does c locks q z (one_of_twelve q.command (parts_of_request q met.is).0)
 
-  pub does_now : is_called c q ≡ true → is_held q ≡ false → Does q written c memory locks r.card m l
+  pub does_now : is_called c q ≡ true → is_held q ≡ false → Does q written c memory locks (card_after c r) m l
   does_now h n = does_of (changed_by q (cleared c)) (reply_to q) (changed_kept q c) changed (done_ends met h z n)
 
-  pub does_held : is_called c q ≡ true → is_held q ≡ true → Does q written c memory locks r.card m l
+  pub does_held : is_called c q ≡ true → is_held q ≡ true → Does q written c memory locks (card_after c r) m l
   does_held h n =
       let next : Card = changed_by q (cleared c) in
       does_of (holding Success next) Silence (holding_kept c next Success (changed_kept q c)) (held_does Success next changed) (done_held_ends met h z n)

@@ -9,10 +9,10 @@ use borrow.Author.Tests.{eq-eqb, le-leb, eqb-true}
 use lib.Dec.{eqb}
 use lib.ListN.{length, take, drop, get_or}
 use lib.Seq.{get_or-take, get_or-drop}
+use Rattle.std.specs.Prelude.{None}
 use Rattle.crc.specs.Check.{sealed}
 use Rattle.crc.proofs.Seal.{length_sealed, sealed_of_is_sealed}
 use Rattle.reader.specs.declared.Request.{Request}
-use Rattle.reader.specs.declared.Reading.TheVariants.{Nothing}
 use Rattle.reader.specs.Request.{is_request}
 use Rattle.reader.specs.Reading.{reads_blocks, block_bytes, lock_bytes, earned, is_error, is_success, is_answer, IsAnswer, read_refusal, outcome, reading}
 use Rattle.reader.specs.Reading.IsAnswer.{AnError, ASuccess}
@@ -88,10 +88,10 @@ module _ (q : Request) (answer blocks locks : List ℕ) (asked : is_request q �
         let good = unrefused q answer (length blocks) (length locks) (sym (number_read q answer blocks locks) ∙ h) in
         is_answer_words q answer good.answered
 
-    pub else_eleven : (IsAnswer q answer → ⊥) → reading q answer blocks locks ≡ outcome 11 Nothing blocks locks
+    pub else_eleven : (IsAnswer q answer → ⊥) → reading q answer blocks locks ≡ outcome 11 None blocks locks
     unfolding reading
     else_eleven h = go (is_answer q answer) refl
       where
-        go : (t : Bool) → is_answer q answer ≡ t → reading q answer blocks locks ≡ outcome 11 Nothing blocks locks
+        go : (t : Bool) → is_answer q answer ≡ t → reading q answer blocks locks ≡ outcome 11 None blocks locks
         go true is = absurd (h (is_answer_words q answer is))
         go false is = rw (refusal_is, is) refl

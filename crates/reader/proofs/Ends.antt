@@ -7,6 +7,8 @@ use Prim.Native.Nat.{ℕ}
 use borrow.Author.Tests.{eq-eqb, ne_eqb}
 use lib.Dec.{eqb}
 use lib.ListN.{length, take}
+use Rattle.std.specs.Prelude.{Result}
+use Rattle.refusals.specs.declared.Refusal.{Refusal}
 use Rattle.crc.specs.Check.{sealed}
 use Rattle.card.specs.declared.Card.{Card}
 use Rattle.card.specs.declared.Held.{Held}
@@ -23,7 +25,7 @@ use Rattle.play.specs.declared.Served.{Served}
 use Rattle.play.specs.Refusal.{Accepted}
 use Rattle.play.specs.Answer.{reply_bytes}
 use Rattle.play.specs.Effects.{memory_after, locks_after}
-use Rattle.play.specs.Events.{replied, carried_out, frame_event, mark_event, Leaves}
+use Rattle.play.specs.Events.{replied, carried_out, frame_event, mark_event, card_after, length_of, Leaves}
 use Rattle.reader.specs.declared.Request.{Request}
 use Rattle.reader.specs.Request.{is_request, data_fits, frame}
 use Rattle.reader.specs.Shown.{is_called, is_held, code_of}
@@ -39,15 +41,15 @@ use Rattle.reader.proofs.Stored.{length_memory, length_locks}
 
 -- ---- the slot mark
 
-module _ (h : Held) (next : Card) (m l : List ℕ) (room : List ℕ) (accepted : Accepted (holding h next) m l room) {s : Served} {m' l' a' : List ℕ}
-    (leaves : Leaves (mark_event (holding h next) m l room) s m' l' a') where
-  pub mark_done : h ≡ Success → (eqb s.length 0 ≡ false) × (take s.length a' ≡ sealed (0x00 ∷ []))
+module _ (h : Held) (next : Card) (m l : List ℕ) (room : List ℕ) (accepted : Accepted (holding h next) m l room) {s : Result Served Refusal} {m' l' a' : List ℕ}
+    (leaves : Leaves (holding h next) (mark_event (holding h next) m l room) s m' l' a') where
+  pub mark_done : h ≡ Success → (eqb (length_of s) 0 ≡ false) × (take (length_of s) a' ≡ sealed (0x00 ∷ []))
   unfolding marked released holding remade reply_bytes speaks
   mark_done e =
       let p = rw (mark_met (holding h next) m l room accepted, e) at leaves in
       (told_some _ m l room reply.Done p refl, said _ m l room reply.Done p refl)
 
-  pub mark_code : (code : ℕ) → h ≡ Code code → (eqb s.length 0 ≡ false) × (take s.length a' ≡ sealed (0x01 ∷ code ∷ []))
+  pub mark_code : (code : ℕ) → h ≡ Code code → (eqb (length_of s) 0 ≡ false) × (take (length_of s) a' ≡ sealed (0x01 ∷ code ∷ []))
   unfolding marked released holding remade reply_bytes speaks
   mark_code code e =
       let p = rw (mark_met (holding h next) m l room accepted, e) at leaves in
@@ -56,20 +58,20 @@ module _ (h : Held) (next : Card) (m l : List ℕ) (room : List ℕ) (accepted :
 -- ---- the frame
 
 -- a request that was made, and what the card's promise allows for it
-pub record Meets (q : Request) (written : List ℕ) (c : Card) (memory locks found : List ℕ) (r : Served) (m l a : List ℕ) : Type 0 where
+pub record Meets (q : Request) (written : List ℕ) (c : Card) (memory locks found : List ℕ) (r : Result Served Refusal) (m l a : List ℕ) : Type 0 where
   pub fits : Fits c memory locks found q
   pub is : is_request q ≡ true
   pub of : data_fits q (length written) ≡ true
-  pub leaves : Leaves (frame_event c (frame q written) memory locks found) r m l a
+  pub leaves : Leaves c (frame_event c (frame q written) memory locks found) r m l a
 
-module _ {q : Request} {written : List ℕ} {c : Card} {memory locks found : List ℕ} {r : Served} {m l a : List ℕ}
+module _ {q : Request} {written : List ℕ} {c : Card} {memory locks found : List ℕ} {r : Result Served Refusal} {m l a : List ℕ}
     (met : Meets q written c memory locks found r m l a) where
-  served : Leaves (carried_out (decided c locks (frame q written)) (frame q written) memory locks found) r m l a
+  served : Leaves c (carried_out (decided c locks (frame q written)) (frame q written) memory locks found) r m l a
   served = rw (frame_met c memory locks found met.fits.accepted (frame q written)) at met.leaves
 
   -- whatever was decided, in parts
   abbrev pub Ends : Card → Effect → Reply → Type 0
-  Ends d effect spoken = Leaves (replied d (memory_after d (frame q written) memory effect) (locks_after locks effect) spoken found) r m l a
+  Ends d effect spoken = Leaves c (replied d (memory_after d (frame q written) memory effect) (locks_after locks effect) spoken found) r m l a
 
   pub not_called_ends : is_called c q ≡ false → Ends (decided c locks (frame q written)).card Leave reply.Silence
   unfolding carried_out
@@ -77,7 +79,7 @@ module _ {q : Request} {written : List ℕ} {c : Card} {memory locks found : Lis
       let p = decided_not_called c locks q written met.is met.of met.fits.same_size met.fits.asked_uid h in
       rw (p.0, p.1) at served
 
-  called : is_called c q ≡ true → Leaves (carried_out (deed_of c locks q) (frame q written) memory locks found) r m l a
+  called : is_called c q ≡ true → Leaves c (carried_out (deed_of c locks q) (frame q written) memory locks found) r m l a
   called h = rw (decided_called c locks q written met.is met.of met.fits.same_size met.fits.asked_uid h) at served
 
   pub done_ends : is_called c q ≡ true → code_of c locks q ≡ 0 → is_held q ≡ false → Ends (changed_by q (cleared c)) (effect_of q) (reply_to q)
@@ -100,7 +102,7 @@ module _ {q : Request} {written : List ℕ} {c : Card} {memory locks found : Lis
 
   -- ---- what it leaves
 
-  pub done_after : (d : Card) (spoken : Reply) → Kept c d → code_of c locks q ≡ 0 → Ends d (effect_of q) spoken → After c memory locks r.card m l
+  pub done_after : (d : Card) (spoken : Reply) → Kept c d → code_of c locks q ≡ 0 → Ends d (effect_of q) spoken → After c memory locks (card_after c r) m l
   unfolding replied
   done_after d spoken kept z p =
       let ready : Ready c memory locks = ready_of c memory locks found met.fits.accepted in
@@ -112,6 +114,6 @@ module _ {q : Request} {written : List ℕ} {c : Card} {memory locks found : Lis
         same_locks = ap length p.locks_left ∙ length_locks q locks;
       }
 
-  pub code_after : (d : Card) (spoken : Reply) → Kept c d → Ends d Leave spoken → After c memory locks r.card m l
+  pub code_after : (d : Card) (spoken : Reply) → Kept c d → Ends d Leave spoken → After c memory locks (card_after c r) m l
   unfolding replied memory_after locks_after
   code_after d spoken kept p = record { kept = rw p.card kept; same_memory = ap length p.memory_left; same_locks = ap length p.locks_left }

@@ -9,12 +9,16 @@ use native.Mathlib.Omega.{arith}
 use borrow.Author.Tests.{eq-eqb, ne_eqb}
 use lib.Dec.{eqb}
 use lib.ListN.{length, take, get_or}
+use Rattle.std.specs.Prelude.{Some, None, Result, Ok}
+use Rattle.std.specs.Result.{result_ok}
+use Rattle.refusals.specs.declared.Refusal.{Refusal}
+use Rattle.refusals.specs.Number.{number_of}
 use Rattle.reader.specs.declared.Request.{Request}
+use Rattle.reader.specs.Steps.{Unrefused}
 use Rattle.reader.specs.declared.Reading.{Reading}
-use Rattle.reader.specs.declared.Reading.TheVariants.{Nothing, Error, Done, Blocks, Locks, System}
-use Rattle.reader.specs.declared.Told.{Told}
+use Rattle.reader.specs.declared.Reading.TheVariants.{Error, Done, Blocks, Locks, System}
 use Rattle.reader.specs.Reading.{reads_blocks, block_bytes, lock_bytes, information_in, reading_in, is_error, is_success, is_answer, read_refusal, part_of, Outcome, outcome, shown_in, reading, Reads, shows_data, ErrorShowsNothing}
-use Rattle.reader.proofs.Served.{take_one, take_two, Unrefused, unrefused, sealed_answer}
+use Rattle.reader.proofs.Served.{take_one, take_two, unrefused, sealed_answer}
 
 -- flags that are not 00 are those of an error
 error_flags : (q : Request) (answer : List ℕ) → is_answer q answer ≡ true → (get_or answer 0 0 ≡ 0 → ⊥) → get_or answer 0 0 ≡ 0x01
@@ -28,11 +32,11 @@ error_flags q answer h other = go (ℕ_discrete (get_or answer 0 0) 0x01)
         cc
 
 -- what a success shows is never an error
-success_shows : (q : Request) (part : List ℕ) → shows_data (reading_in q part) ≡ true
+success_shows : (q : Request) (part : List ℕ) → shows_data (Some (reading_in q part)) ≡ true
 unfolding reading_in shows_data
 success_shows q part = go (reads_blocks q) (eqb q.command 0x2c) (eqb q.command 0x2b)
   where
-    go : (b l s : Bool) → shows_data (cond b (Blocks (block_bytes q)) (cond l (Locks (lock_bytes q)) (cond s (System (information_in part)) Done))) ≡ true
+    go : (b l s : Bool) → shows_data (Some (cond b (Blocks (block_bytes q)) (cond l (Locks (lock_bytes q)) (cond s (System (information_in part)) Done)))) ≡ true
     go true l s = refl
     go false true s = refl
     go false false true = refl
@@ -40,8 +44,8 @@ success_shows q part = go (reads_blocks q) (eqb q.command 0x2c) (eqb q.command 0
 
 -- the three ways
 data Way (q : Request) (answer blocks locks : List ℕ) : Outcome → Type 0 where
-  Refuses : (n : ℕ) → (n ≡ 0 → ⊥) → Way q answer blocks locks (outcome n Nothing blocks locks)
-  Tells : take 2 answer ≡ 0x01 ∷ get_or answer 1 0 ∷ [] → Way q answer blocks locks (outcome 0 (Error (get_or answer 1 0)) blocks locks)
+  Refuses : (n : ℕ) → (n ≡ 0 → ⊥) → Way q answer blocks locks (outcome n None blocks locks)
+  Tells : take 2 answer ≡ 0x01 ∷ get_or answer 1 0 ∷ [] → Way q answer blocks locks (outcome 0 (Some (Error (get_or answer 1 0))) blocks locks)
   Shows : take 1 answer ≡ 0x00 ∷ [] → Way q answer blocks locks (shown_in q (part_of answer) blocks locks)
 
 way : (q : Request) (answer blocks locks : List ℕ) → Way q answer blocks locks (reading q answer blocks locks)
@@ -72,17 +76,29 @@ way q answer blocks locks = go (read_refusal q answer (length blocks) (length lo
 never : {b : Bool} → b ≡ true → b ≡ false → ⊥
 never p q = let z : ◌≡◌ {A = ℕ} 0 1 = cc in omega arith
 
-no_data_in_code : {r : Reading} (code : ℕ) → r ≡ Error code → shows_data r ≡ false
+no_data_in_code : {r : Result Reading Refusal} (code : ℕ) → r ≡ Ok (Error code) → shows_data (result_ok r) ≡ false
 unfolding shows_data
 no_data_in_code code is = rw is refl
 
-module _ (q : Request) (answer blocks locks : List ℕ) (r : Told) (blocks' locks' : List ℕ) where
+-- what shows no data leaves both buffers as they were
+left_alone : (q : Request) (answer blocks locks : List ℕ) {o : Outcome} → Way q answer blocks locks o → shows_data o.reading ≡ false
+    → (o.blocks ≡ blocks) × (o.locks ≡ locks)
+unfolding outcome shown_in
+left_alone q answer blocks locks (Refuses n other) none = (refl, refl)
+left_alone q answer blocks locks (Tells flags) none = (refl, refl)
+left_alone q answer blocks locks (Shows flags) none = absurd (never (success_shows q (part_of answer)) none)
+
+pub nothing_left : (q : Request) (answer blocks locks : List ℕ) → shows_data (reading q answer blocks locks).reading ≡ false
+    → ((reading q answer blocks locks).blocks ≡ blocks) × ((reading q answer blocks locks).locks ≡ locks)
+nothing_left q answer blocks locks = left_alone q answer blocks locks (way q answer blocks locks)
+
+module _ (q : Request) (answer blocks locks : List ℕ) (r : Result Reading Refusal) (blocks' locks' : List ℕ) where
   shows_nothing : {o : Outcome} → Way q answer blocks locks o → Reads o r blocks' locks' → ErrorShowsNothing answer blocks locks r blocks' locks'
   unfolding outcome shown_in shows_data
   shows_nothing (Refuses n other) p =
       record {
         data_of_success = λ shows. absurd (never shows (ap shows_data p.reading));
-        code_of_error = λ code is. absurd (let z : ◌≡◌ {A = ℕ} 0 1 = cc p.reading in omega arith);
+        code_of_error = λ code is. cc (p.reading, ap result_ok is);
         nothing_shown = λ none. (p.blocks_left, p.locks_left);
       }
   shows_nothing (Tells flags) p =
@@ -92,7 +108,7 @@ module _ (q : Request) (answer blocks locks : List ℕ) (r : Told) (blocks' lock
         nothing_shown = λ none. (p.blocks_left, p.locks_left);
       }
   shows_nothing (Shows flags) p =
-      let shown : shows_data r.reading ≡ true = ap shows_data p.reading ∙ success_shows q (part_of answer) in
+      let shown : shows_data (result_ok r) ≡ true = ap shows_data p.reading ∙ success_shows q (part_of answer) in
       record {
         data_of_success = λ shows. flags;
         code_of_error = λ code is. absurd (never shown (no_data_in_code code is));
@@ -102,13 +118,13 @@ module _ (q : Request) (answer blocks locks : List ℕ) (r : Told) (blocks' lock
   pub error_shows_nothing : Reads (reading q answer blocks locks) r blocks' locks' → ErrorShowsNothing answer blocks locks r blocks' locks'
   error_shows_nothing = shows_nothing (way q answer blocks locks)
 
-  changes_nothing : {o : Outcome} → Way q answer blocks locks o → Reads o r blocks' locks' → (r.number ≡ 0 → ⊥)
-      → (r.reading ≡ Nothing) × (blocks' ≡ blocks) × (locks' ≡ locks)
+  changes_nothing : {o : Outcome} → Way q answer blocks locks o → Reads o r blocks' locks' → (number_of r ≡ 0 → ⊥)
+      → (result_ok r ≡ None) × (blocks' ≡ blocks) × (locks' ≡ locks)
   unfolding outcome shown_in
   changes_nothing (Refuses n other) p h = (p.reading, p.blocks_left, p.locks_left)
   changes_nothing (Tells flags) p h = absurd (h p.number)
   changes_nothing (Shows flags) p h = absurd (h p.number)
 
-  pub refused_changes_nothing : Reads (reading q answer blocks locks) r blocks' locks' → (r.number ≡ 0 → ⊥)
-      → (r.reading ≡ Nothing) × (blocks' ≡ blocks) × (locks' ≡ locks)
+  pub refused_changes_nothing : Reads (reading q answer blocks locks) r blocks' locks' → (number_of r ≡ 0 → ⊥)
+      → (result_ok r ≡ None) × (blocks' ≡ blocks) × (locks' ≡ locks)
   refused_changes_nothing = changes_nothing (way q answer blocks locks)

@@ -5,6 +5,8 @@ use mathlib.Core.Bool.{Bool, true}
 use mathlib.Core.List.{List}
 use Prim.Native.Nat.{ℕ}
 use lib.Dec.{eqb}
+use Rattle.std.specs.Prelude.{Result}
+use Rattle.refusals.specs.declared.Refusal.{Refusal}
 use Rattle.card.specs.declared.Card.{Card}
 use Rattle.card.specs.declared.Mode.{Mode}
 use Rattle.card.specs.declared.Sequence.TheVariants.{Idle}
@@ -14,7 +16,7 @@ use Rattle.card.specs.Inventory.{still}
 use Rattle.card.specs.Mark.{moved, released, marked}
 use Rattle.play.specs.declared.Served.{Served}
 use Rattle.play.specs.Refusal.{Accepted}
-use Rattle.play.specs.Events.{mark_event, Leaves}
+use Rattle.play.specs.Events.{mark_event, length_of, Leaves}
 use Rattle.reader.specs.declared.Request.{Request}
 use Rattle.reader.proofs.Asked.{changed_by}
 use Rattle.reader.proofs.Kept.{either_holds}
@@ -55,6 +57,6 @@ marked_still : (c : Card) → Freed c → marked c ≡ still c
 unfolding marked released moved
 marked_still c p = ap (released c) p.held ∙ ap (moved c) p.sequence
 
-pub mark_silent : (c : Card) (m l room : List ℕ) → Accepted c m l room → Freed c → {s : Served} {m' l' a' : List ℕ}
-    → Leaves (mark_event c m l room) s m' l' a' → eqb s.length 0 ≡ true
+pub mark_silent : (c : Card) (m l room : List ℕ) → Accepted c m l room → Freed c → {s : Result Served Refusal} {m' l' a' : List ℕ}
+    → Leaves c (mark_event c m l room) s m' l' a' → eqb (length_of s) 0 ≡ true
 mark_silent c m l room accepted p leaves = told_none c m l room (rw (mark_met c m l room accepted, marked_still c p) at leaves)

@@ -18,8 +18,9 @@ use Rattle.frames.specs.Frame.{is_sound}
 use Rattle.frames.proofs.Fields.{length_field_bytes}
 use Rattle.frames.proofs.Sound.{sound_of_short}
 use Rattle.reader.specs.declared.Request.{Request}
+use Rattle.reader.specs.Steps.{Passes}
 use Rattle.reader.specs.Request.{is_addressed, address, body, message, frame, is_asked, is_request, data_fits, make_refusal, make_answer, make_leaves, Makes}
-use Rattle.reader.proofs.MakeWays.{Passes, passes_of_refusal, refusal_of_passes, written_most}
+use Rattle.reader.proofs.MakeWays.{passes_of_refusal, refusal_of_passes, written_most}
 
 -- ---- the parts
 
@@ -115,6 +116,16 @@ make_served q written room n made m =
     let long : n ≡ length (frame q written) = ap nat_abs (rw served at m.answer) in
     let left : made ≡ over (frame q written) room = rw served at m.leaves in
     (passes.asked, passes.fits, rw (long, left) (take_over (frame q written) room))
+
+-- and it fits any number: a request has 45 bytes at the most
+pub made_most : (q : Request) (written room : List ℕ) (n : ℕ) (made : List ℕ) → Makes q written room (pos n) made → n ≤ 45
+unfolding make_answer
+made_most q written room n made m =
+    let none = refusal_of_length q written room n m.answer in
+    let passes = passes_of_refusal q (length written) (length room) none in
+    let served = eq-eqb (make_refusal q (length written) (length room)) 0 none in
+    let long : n ≡ length (frame q written) = ap nat_abs (rw served at m.answer) in
+    rw long (length_frame_most q written passes.asked passes.fits)
 
 pub make_served_room : (q : Request) (written room : List ℕ) (n : ℕ) (made : List ℕ) → Makes q written room (pos n) made → 45 ≤ length room
 make_served_room q written room n made m = (passes_of_refusal q (length written) (length room) (refusal_of_length q written room n m.answer)).enough

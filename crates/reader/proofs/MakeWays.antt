@@ -1,28 +1,23 @@
 -- The ways out of making a request: refused, with the room as found, or served. By the tests of the definitions. Assumes nothing.
-use mathlib.Core.Path.{◌≡◌, refl, sym, subst, ap, ◌∙◌}
+use mathlib.Core.Path.{◌≡◌, refl}
 use mathlib.Core.Bool.{Bool, true, false, cond, ◌&&◌, and-eq-true_iff}
 use mathlib.Core.List.{List}
-use Prim.Native.Nat.{ℕ, zero, suc, ◌≤◌, ◌<◌}
+use Prim.Native.Nat.{ℕ, ◌≤◌}
 use native.Mathlib.Omega.{arith}
 use borrow.Author.Tests.{leb-true, le-leb, eq-eqb, ne_eqb, eqb-true}
 use lib.Dec.{leb, eqb}
-use lib.IntN.{ℤ, pos, ◌-ℤ◌, +ℤ_idl}
 use lib.ListN.{length}
-use mir.Syntax.{w64}
-use mir.Val.{SFits, to_z, of_z}
-use mir.ValLaws.{to_z_pos, to_z-of_z}
 use Rattle.lent.specs.Lent.{refused}
+use Rattle.refusals.specs.declared.Refusal.{Refusal}
+use Rattle.refusals.specs.Number.{number}
+use Rattle.refusals.proofs.Numbers.{number_is_some}
 use Rattle.reader.specs.declared.Request.{Request}
+use Rattle.reader.specs.Steps.{Passes}
 use Rattle.reader.specs.Request.{is_addressed, is_asked, is_request, data_fits, room_asked, make_refusal, make_answer, make_leaves, Makes}
 
 -- ---- the tests
 
 -- the number is 0 exactly if all pass
-pub record Passes (q : Request) (written room : ℕ) : Type 0 where
-  pub asked : is_request q ≡ true
-  pub fits : data_fits q written ≡ true
-  pub enough : 45 ≤ room
-
 pub passes_of_refusal : (q : Request) (written room : ℕ) → make_refusal q written room ≡ 0 → Passes q written room
 unfolding make_refusal room_asked
 passes_of_refusal q written room e = go (is_request q) (data_fits q written) (leb 45 room) refl refl refl e
@@ -62,25 +57,9 @@ written_most q written asked fits is =
 
 -- ---- refused
 
--- minus the number, as the machine works it out in 64 bits
-refused_fits : (n : ℕ) → n < 256 → SFits w64 (refused n)
-refused_fits zero h = record { sfits = omega arith }
-refused_fits (suc n) h = record { sfits = omega arith }
-
-minus_refused : (n : ℕ) → n < 256 → pos 0 -ℤ to_z w64 n ≡ refused n
-minus_refused n h =
-    let half : n < 9223372036854775808 = omega arith in
-    ap (λ (z : ℤ). pos 0 -ℤ z) (to_z_pos w64 n half) ∙ +ℤ_idl (refused n)
-
-pub minus_fits : (n : ℕ) → n < 256 → SFits w64 (pos 0 -ℤ to_z w64 n)
-minus_fits n h = subst (SFits w64) (sym (minus_refused n h)) (refused_fits n h)
-
-pub minus_is_refused : (n : ℕ) → n < 256 → to_z w64 (of_z w64 (pos 0 -ℤ to_z w64 n)) ≡ refused n
-minus_is_refused n h = to_z-of_z w64 (pos 0 -ℤ to_z w64 n) (minus_fits n h) ∙ minus_refused n h
-
-pub makes_refused : (q : Request) (written room : List ℕ) (n : ℕ) → n ≡ make_refusal q (length written) (length room) → (n ≡ 0 → ⊥)
-    → Makes q written room (refused n) room
+pub makes_refused : (q : Request) (written room : List ℕ) (refusal : Refusal) → number refusal ≡ make_refusal q (length written) (length room)
+    → Makes q written room (refused (number refusal)) room
 unfolding make_answer make_leaves
-makes_refused q written room n is h =
-    let other : eqb (make_refusal q (length written) (length room)) 0 ≡ false = rw (← is) (ne_eqb n 0 h) in
+makes_refused q written room refusal is =
+    let other : eqb (make_refusal q (length written) (length room)) 0 ≡ false = rw (← is) (ne_eqb (number refusal) 0 (number_is_some refusal)) in
     record { answer = rw (other, ← is); leaves = rw other }

@@ -1,49 +1,33 @@
--- A request put together at the start of a buffer: its flags, its head, its body and its check. By the tests of the definitions, and by the laws of
+-- A request put together at the start of a buffer: its head, its body and its check. By the tests of the definitions, and by the laws of
 -- `over` and `placed`. Assumes nothing.
 use mathlib.Core.Path.{◌≡◌, refl, sym, ap, ◌∙◌}
-use mathlib.Core.Bool.{Bool, true, false, cond, ◌||◌}
-use mathlib.Core.List.{List, ◌∷◌}
+use mathlib.Core.Bool.{true}
+use mathlib.Core.List.{List, [], ◌∷◌}
 use Prim.Native.Nat.{ℕ, ◌+◌, ◌≤◌}
 use native.Mathlib.Omega.{arith}
 use borrow.Author.Tests.{le-leb, eq-eqb, ne_eqb}
-use lib.Dec.{leb, eqb}
+use borrow.Rule.Slice.PartMut.{put_mid}
+use lib.Dec.{leb}
 use lib.IntN.{ℤ, pos}
-use lib.ListN.{length, take, drop, set, length-set}
-use lib.Seq.{take-length}
+use lib.ListN.{length, take, set, length-set}
+use Rattle.std.specs.Prelude.{Result, Ok}
+use Rattle.refusals.specs.declared.Refusal.{Refusal}
+use Rattle.refusals.specs.Number.{number_back}
 use Rattle.lent.specs.Lent.{over, placed}
 use Rattle.lent.specs.Puts.{Puts, PutsAt}
 use Rattle.lent.proofs.Over.{over_placed, over_over, take_over, length_over}
-use Rattle.lent.proofs.Puts.{puts_none, puts_byte, puts_bytes, puts_then, puts_start}
+use Rattle.lent.proofs.Puts.{puts_byte, puts_bytes, puts_then, puts_start}
 use Rattle.crc.specs.Check.{check_bytes, sealed}
 use Rattle.frames.specs.Field.{field_bytes, PutsField}
 use Rattle.frames.specs.Frame.{seal_answer, seal_leaves, Seals}
 use Rattle.frames.proofs.Fields.{length_field_bytes}
-use Rattle.frames.proofs.Ways.{puts_served}
-use Rattle.frames.proofs.Unique.{put_field_unique}
+use Rattle.frames.proofs.Ways.{puts_field_fits}
 use Rattle.reader.specs.declared.Request.{Request}
-use Rattle.reader.specs.Request.{is_addressed, is_for_selected, has_option, flags, address, body, message, frame, make_refusal, make_answer, make_leaves, Makes}
-use Rattle.reader.proofs.MakeWays.{Passes, refusal_of_passes}
+use Rattle.reader.specs.Steps.{Passes}
+use Rattle.reader.specs.Request.{is_addressed, flags, address, body, message, frame, make_refusal, make_answer, make_leaves, Makes}
+use Rattle.reader.proofs.MakeWays.{refusal_of_passes}
+use Rattle.reader.proofs.Copy.{copied}
 use Rattle.reader.proofs.Lengths.{length_address_most, length_message, length_frame, length_frame_most}
-
--- ---- the flags
-
-pub mode_flag_most : (q : Request) → cond (is_addressed q) 0x20 (cond (is_for_selected q) 0x10 0x00) ≤ 0x20
-mode_flag_most q = go (is_addressed q) (is_for_selected q)
-  where
-    go : (a b : Bool) → cond a 0x20 (cond b 0x10 0x00) ≤ 0x20
-    go true b = omega arith
-    go false true = omega arith
-    go false false = omega arith
-
-pub flags_option : (q : Request) (called : ℕ) → called ≡ cond (is_addressed q) 0x20 (cond (is_for_selected q) 0x10 0x00) → has_option q ≡ true
-    → 0x42 + called ≡ flags q
-unfolding flags
-flags_option q called is h = rw (h, ← is) (omega arith)
-
-pub flags_no_option : (q : Request) (called : ℕ) → called ≡ cond (is_addressed q) 0x20 (cond (is_for_selected q) 0x10 0x00) → has_option q ≡ false
-    → 0x02 + called ≡ flags q
-unfolding flags
-flags_no_option q called is h = rw (h, ← is) (omega arith)
 
 -- ---- the head
 
@@ -52,60 +36,46 @@ pub puts_unaddressed : (q : Request) (e : List ℕ) {f : ℕ} → f ≡ flags q 
 unfolding address is_addressed
 puts_unaddressed q e {f} is h k = rw (ne_eqb q.mode 1 h, is) (puts_start (puts_bytes 0 (flags q) q.command e (omega arith)))
 
-pub puts_addressed : (q : Request) (e : List ℕ) {f : ℕ} {r : ℤ} {left : List ℕ} → f ≡ flags q → q.mode ≡ 1
-    → PutsField (set (set e 0 f) 1 q.command) 2 8 q.uid r left → 10 ≤ length e → Puts (flags q ∷ q.command ∷ address q) e 10 left
+pub puts_addressed : (q : Request) (e : List ℕ) {f : ℕ} {r : Result ℕ Refusal} {n : ℕ} {left : List ℕ} → f ≡ flags q → q.mode ≡ 1 → r ≡ Ok n
+    → PutsField (set (set e 0 f) 1 q.command) 2 8 q.uid (number_back r) left → 10 ≤ length e → Puts (flags q ∷ q.command ∷ address q) e n left
 unfolding address is_addressed
-puts_addressed q e {f} {r} {left} is h field k =
+puts_addressed q e {f} {r} {n} {left} is h all field k =
     let start : List ℕ = set (set e 0 (flags q)) 1 q.command in
     let long : length (field_bytes 8 q.uid) ≡ 8 = length_field_bytes 8 q.uid in
     let same : length start ≡ length e = length-set (set e 0 (flags q)) 1 q.command ∙ length-set e 0 (flags q) in
-    let put : PutsField start 2 8 q.uid r left = rw is at field in
-    let uid : PutsAt 2 (field_bytes 8 q.uid) start 10 left =
-    record { next = rw long; leaves = (put_field_unique put (puts_served start 2 8 q.uid (omega arith))).1 } in
+    let put : PutsField start 2 8 q.uid (number_back r) left = rw is at field in
+    let fits = puts_field_fits r put (omega arith) in
+    let ten : Ok n ≡ Ok 10 = sym all ∙ fits.0 in
+    let uid : PutsAt 2 (field_bytes 8 q.uid) start n left = record { next = cc long; leaves = fits.1 } in
     rw (eq-eqb q.mode 1 h) (puts_start (puts_then (puts_bytes 0 (flags q) q.command e (omega arith)) uid (omega arith)))
 
 pub length_head_most : (q : Request) → length (flags q ∷ q.command ∷ address q) ≤ 10
 length_head_most q = omega (arith, length_address_most q)
 
--- ---- the body, by the tests of the command
+-- ---- the body of 21, and of the commands that have none
 
-module _ (q : Request) (written e : List ℕ) (at : ℕ) (room : at + 33 ≤ length e) where
-  abbrev is_block : Bool
-  is_block = eqb q.command 0x20 || eqb q.command 0x22
+pub puts_written : (q : Request) (written e : List ℕ) (at n : ℕ) {left : List ℕ} → at + 1 + length written ≤ length e → q.command ≡ 0x21 → n ≡ length written
+    → left ≡ written → PutsAt at (body q written) e (at + 1 + length written) (put_mid (at + 1) n (set e at q.first) left)
+unfolding body
+puts_written q written e at n room is long same =
+    let rest : PutsAt (at + 1) written (set e at q.first) (at + 1 + length written) (placed (at + 1) written (set e at q.first)) =
+    record { next = refl; leaves = refl } in
+    rw (is, copied (at + 1) n (set e at q.first) written same long) (puts_then (puts_byte at q.first e (omega arith)) rest (omega arith))
 
-  abbrev is_blocks : Bool
-  is_blocks = eqb q.command 0x23 || eqb q.command 0x2c
-
-  abbrev is_value : Bool
-  is_value = eqb q.command 0x27 || eqb q.command 0x29
-
-  pub puts_block : is_block ≡ true → PutsAt at (body q written) e (at + 1) (set e at q.first)
-  unfolding body
-  puts_block h = rw h (puts_byte at q.first e (omega arith))
-
-  pub puts_written : {left : List ℕ} → is_block ≡ false → q.command ≡ 0x21 → length written ≤ 32
-      → left ≡ placed (at + 1) (take (length written) (drop 0 written)) (set e at q.first)
-      → PutsAt at (body q written) e (at + 1 + length written) left
-  unfolding body
-  puts_written {left} h is few told =
-      let all : take (length written) written ≡ written = take-length written in
-      let rest : PutsAt (at + 1) written (set e at q.first) (at + 1 + length written) left =
-      record { next = refl; leaves = told ∙ ap (λ (s : List ℕ). placed (at + 1) s (set e at q.first)) all } in
-      rw (h, eq-eqb q.command 0x21 is) (puts_then (puts_byte at q.first e (omega arith)) rest (omega arith))
-
-  pub puts_blocks : is_block ≡ false → (q.command ≡ 0x21 → ⊥) → is_blocks ≡ true
-      → PutsAt at (body q written) e (at + 2) (set (set e at q.first) (at + 1) q.n)
-  unfolding body
-  puts_blocks h k l = rw (h, ne_eqb q.command 0x21 k, l) (puts_bytes at q.first q.n e (omega arith))
-
-  pub puts_value : is_block ≡ false → (q.command ≡ 0x21 → ⊥) → is_blocks ≡ false → is_value ≡ true
-      → PutsAt at (body q written) e (at + 1) (set e at q.value)
-  unfolding body
-  puts_value h k l m = rw (h, ne_eqb q.command 0x21 k, l, m) (puts_byte at q.value e (omega arith))
-
-  pub puts_no_body : is_block ≡ false → (q.command ≡ 0x21 → ⊥) → is_blocks ≡ false → is_value ≡ false → PutsAt at (body q written) e at e
-  unfolding body
-  puts_no_body h k l m = rw (h, ne_eqb q.command 0x21 k, l, m) (puts_none at e)
+-- what is none of them all has no body
+pub no_body : (q : Request) (written : List ℕ) → (q.command ≡ 0x20 → ⊥) → (q.command ≡ 0x21 → ⊥) → (q.command ≡ 0x22 → ⊥) → (q.command ≡ 0x23 → ⊥)
+    → (q.command ≡ 0x27 → ⊥) → (q.command ≡ 0x29 → ⊥) → (q.command ≡ 0x2c → ⊥) → body q written ≡ []
+unfolding body
+no_body q written a b d f g h k =
+    rw (
+      ne_eqb q.command 0x20 a,
+      ne_eqb q.command 0x21 b,
+      ne_eqb q.command 0x22 d,
+      ne_eqb q.command 0x23 f,
+      ne_eqb q.command 0x27 g,
+      ne_eqb q.command 0x29 h,
+      ne_eqb q.command 0x2c k,
+    )
 
 -- ---- the whole
 

@@ -6,14 +6,17 @@ use Prim.Native.Nat.{ℕ, ◌*◌, ◌≤◌, ◌<◌, ◌^◌}
 use borrow.Author.Tests.{eq-eqb, ne_eqb}
 use lib.Dec.{eqb}
 use lib.ListN.{length}
+use Rattle.std.specs.Prelude.{Some, Result, Ok, Err}
+use Rattle.std.specs.Result.{result_ok}
+use Rattle.refusals.specs.declared.Refusal.{Refusal}
 use Rattle.lent.specs.Lent.{over}
 use Rattle.lent.proofs.Over.{over_none}
 use Rattle.crc.specs.Check.{sealed}
 use Rattle.card.specs.declared.Card.{Card}
 use Rattle.play.specs.Answer.{reply_bytes}
 use Rattle.reader.specs.declared.Request.{Request}
+use Rattle.reader.specs.declared.Reading.{Reading}
 use Rattle.reader.specs.declared.Reading.TheVariants.{Error}
-use Rattle.reader.specs.declared.Told.{Told}
 use Rattle.reader.specs.Request.{is_request}
 use Rattle.reader.specs.Reading.{outcome, reading, Reads}
 use Rattle.reader.specs.Shown.{moves_blocks, is_held, code_of, reading_held, bytes_held, marks_held, shown_reading, shown_bytes, Shows}
@@ -26,23 +29,28 @@ use Rattle.reader.proofs.Replies.{success_read, error_read, done_read}
 
 -- ---- what is read is shown
 
+-- a reading is that of a call that was served
+read_ok : {x : Reading} (r : Result Reading Refusal) → result_ok r ≡ Some x → r ≡ Ok x
+read_ok (Ok y) is = cc
+read_ok (Err e) is = cc
+
 module _ (code : ℕ) (c : Card) (memory locks : List ℕ) (q : Request) (answer : List ℕ) (found found' : List ℕ) where
   shows_held : code ≡ 0
-      → reading q answer found found' ≡ outcome 0 (reading_held c q) (over (bytes_held memory q) found) (over (marks_held locks q) found')
-      → (r : Told) (blocks marks : List ℕ) → Reads (reading q answer found found') r blocks marks → Shows code c memory locks q found found' r blocks marks
+      → reading q answer found found' ≡ outcome 0 (Some (reading_held c q)) (over (bytes_held memory q) found) (over (marks_held locks q) found')
+      → (r : Result Reading Refusal) (blocks marks : List ℕ) → Reads (reading q answer found found') r blocks marks → Shows code c memory locks q found found' r blocks marks
   unfolding outcome shown_reading shown_bytes
   shows_held z e r blocks marks reads =
-      let p : Reads (outcome 0 (reading_held c q) (over (bytes_held memory q) found) (over (marks_held locks q) found')) r blocks marks = rw e at reads in
+      let p : Reads (outcome 0 (Some (reading_held c q)) (over (bytes_held memory q) found) (over (marks_held locks q) found')) r blocks marks = rw e at reads in
       let t : eqb code 0 ≡ true = eq-eqb code 0 z in
-      record { number = p.number; reading = rw t p.reading; blocks_left = rw t p.blocks_left; locks_left = rw t p.locks_left }
+      record { reading = rw t (read_ok r p.reading); blocks_left = rw t p.blocks_left; locks_left = rw t p.locks_left }
 
-  shows_code : (code ≡ 0 → ⊥) → reading q answer found found' ≡ outcome 0 (Error code) found found'
-      → (r : Told) (blocks marks : List ℕ) → Reads (reading q answer found found') r blocks marks → Shows code c memory locks q found found' r blocks marks
+  shows_code : (code ≡ 0 → ⊥) → reading q answer found found' ≡ outcome 0 (Some (Error code)) found found'
+      → (r : Result Reading Refusal) (blocks marks : List ℕ) → Reads (reading q answer found found') r blocks marks → Shows code c memory locks q found found' r blocks marks
   unfolding outcome shown_reading shown_bytes
   shows_code z e r blocks marks reads =
-      let p : Reads (outcome 0 (Error code) found found') r blocks marks = rw e at reads in
+      let p : Reads (outcome 0 (Some (Error code)) found found') r blocks marks = rw e at reads in
       let t : eqb code 0 ≡ false = ne_eqb code 0 z in
-      record { number = p.number; reading = rw t p.reading; blocks_left = rw t p.blocks_left; locks_left = rw t p.locks_left }
+      record { reading = rw t (read_ok r p.reading); blocks_left = rw t p.blocks_left; locks_left = rw t p.locks_left }
 
 -- ---- of one request to one card
 

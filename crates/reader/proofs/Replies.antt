@@ -7,6 +7,7 @@ use Prim.Native.Nat.{ℕ, ◌+◌, ◌*◌, ◌≤◌, ◌<◌, ◌^◌}
 use native.Mathlib.Omega.{arith}
 use lib.Dec.{eqb}
 use lib.ListN.{length}
+use Rattle.std.specs.Prelude.{Some}
 use Rattle.lent.specs.Lent.{over}
 use Rattle.lent.proofs.Over.{over_none}
 use Rattle.crc.specs.Check.{sealed}
@@ -31,13 +32,13 @@ module _ (c : Card) (memory locks : List ℕ) (q : Request) (is : is_request q �
   -- "read back as what the card holds"
   pub success_read : is_outside c q ≡ false
       → reading q (sealed (reply_bytes c memory locks (reply_to q))) found found'
-      ≡ outcome 0 (reading_held c q) (over (bytes_held memory q) found) (over (marks_held locks q) found')
+      ≡ outcome 0 (Some (reading_held c q)) (over (bytes_held memory q) found) (over (marks_held locks q) found')
   unfolding shown_in
   success_read outside = go (told outside)
     where
       go : (part : List ℕ) × Tells c memory locks q part
           → reading q (sealed (reply_bytes c memory locks (reply_to q))) found found'
-          ≡ outcome 0 (reading_held c q) (over (bytes_held memory q) found) (over (marks_held locks q) found')
+          ≡ outcome 0 (Some (reading_held c q)) (over (bytes_held memory q) found) (over (marks_held locks q) found')
       go (part, t) =
           rw (t.reply, part_read q is found found' room room' part t.long t.all, t.read, t.blocks, t.marked) refl
 
@@ -48,21 +49,21 @@ module _ (c : Card) (memory locks : List ℕ) (q : Request) (is : is_request q �
       go : (part : List ℕ) × Tells c memory locks q part → length (reply_bytes c memory locks (reply_to q)) + 2 ≡ earned q
       go (part, t) = rw t.reply (omega (arith, t.long))
 
-  pub error_read : (code : ℕ) → reading q (sealed (0x01 ∷ code ∷ [])) found found' ≡ outcome 0 (Error code) found found'
+  pub error_read : (code : ℕ) → reading q (sealed (0x01 ∷ code ∷ [])) found found' ≡ outcome 0 (Some (Error code)) found found'
   error_read = code_read q is found found' room room'
 
   -- ---- success alone, for the commands that have no more to tell
 
   shown_plain : eqb q.command 0x20 ≡ false → eqb q.command 0x23 ≡ false → eqb q.command 0x2b ≡ false → eqb q.command 0x2c ≡ false
-      → shown_in q [] found found' ≡ outcome 0 Done found found'
+      → shown_in q [] found found' ≡ outcome 0 (Some Done) found found'
   unfolding shown_in reading_in reads_blocks block_bytes_in lock_bytes_in
   shown_plain a b d e = rw (a, b, e, d, over_none found, over_none found') refl
 
-  pub done_read : reply_to q ≡ Success → reading q (sealed (0x00 ∷ [])) found found' ≡ outcome 0 Done found found'
+  pub done_read : reply_to q ≡ Success → reading q (sealed (0x00 ∷ [])) found found' ≡ outcome 0 (Some Done) found found'
   unfolding reply_to
   done_read done = go (kind q.command)
     where
-      go : Kind q.command → reading q (sealed (0x00 ∷ [])) found found' ≡ outcome 0 Done found found'
+      go : Kind q.command → reading q (sealed (0x00 ∷ [])) found found' ≡ outcome 0 (Some Done) found found'
       go (One e) = let more : reply_to q ≡ Blocks q.first 1 (has_option q) = rw e refl in cc (done, more)
       go (Several e) = let more : reply_to q ≡ Blocks q.first (q.n + 1) (has_option q) = rw e refl in cc (done, more)
       go (System e) = let more : reply_to q ≡ Information = rw e refl in cc (done, more)

@@ -8,6 +8,8 @@ use native.Mathlib.Omega.{arith}
 use borrow.Author.Tests.{eq-eqb, ne_eqb}
 use lib.Dec.{eqb}
 use lib.ListN.{length, take}
+use Rattle.std.specs.Prelude.{Result}
+use Rattle.refusals.specs.declared.Refusal.{Refusal}
 use Rattle.lent.proofs.Over.{take_over}
 use Rattle.crc.specs.Check.{sealed}
 use Rattle.crc.proofs.Seal.{length_sealed}
@@ -19,7 +21,7 @@ use Rattle.commands.specs.Frame.{decided}
 use Rattle.play.specs.declared.Served.{Served}
 use Rattle.play.specs.Refusal.{refusal, Accepted}
 use Rattle.play.specs.Answer.{reply_bytes}
-use Rattle.play.specs.Events.{length_told, answered, Outcome, replied, event, carried_out, frame_event, mark_event, Leaves}
+use Rattle.play.specs.Events.{length_told, answered, Outcome, replied, event, carried_out, frame_event, mark_event, card_after, length_of, Leaves}
 
 -- ---- events that are served
 
@@ -77,14 +79,15 @@ module _ (c : Card) (memory locks found : List ℕ) where
 
 -- ---- what a promise allows of it
 
-module _ (c : Card) (memory locks found : List ℕ) (reply : Reply) {r : Served} {m l a : List ℕ} (leaves : Leaves (replied c memory locks reply found) r m l a) where
-  pub told_some : speaks reply ≡ true → eqb r.length 0 ≡ false
-  told_some e = ne_eqb r.length 0 (λ z. omega (arith, leaves.told, reply_told c memory locks found reply e))
+module _ {before : Card} (c : Card) (memory locks found : List ℕ) (reply : Reply) {r : Result Served Refusal} {m l a : List ℕ}
+    (leaves : Leaves before (replied c memory locks reply found) r m l a) where
+  pub told_some : speaks reply ≡ true → eqb (length_of r) 0 ≡ false
+  told_some e = ne_eqb (length_of r) 0 (λ z. omega (arith, leaves.told, reply_told c memory locks found reply e))
 
-  pub said : speaks reply ≡ true → take r.length a ≡ sealed (reply_bytes r.card m l reply)
+  pub said : speaks reply ≡ true → take (length_of r) a ≡ sealed (reply_bytes (card_after before r) m l reply)
   unfolding replied
   said e = rw (leaves.told, leaves.answer_left, leaves.card, leaves.memory_left, leaves.locks_left) (reply_said c memory locks found reply e)
 
-pub told_none : (c : Card) (memory locks found : List ℕ) {r : Served} {m l a : List ℕ} → Leaves (replied c memory locks Silence found) r m l a
-    → eqb r.length 0 ≡ true
-told_none c memory locks found {r} leaves = eq-eqb r.length 0 (leaves.told ∙ silence_told c memory locks found)
+pub told_none : {before : Card} (c : Card) (memory locks found : List ℕ) {r : Result Served Refusal} {m l a : List ℕ} → Leaves before (replied c memory locks Silence found) r m l a
+    → eqb (length_of r) 0 ≡ true
+told_none c memory locks found {r} leaves = eq-eqb (length_of r) 0 (leaves.told ∙ silence_told c memory locks found)

@@ -7,9 +7,9 @@ use native.Mathlib.Nat.{suc-mul, mul-le-mul_right}
 use native.Mathlib.Numerals.{add-one}
 use native.Mathlib.Omega.{arith}
 use lib.ListN.{length, take, drop, length-append, length-drop}
-use lib.Seq.{length-take-le, take-length}
+use lib.Seq.{length-take-le}
 use Rattle.lent.specs.Lent.{over, placed}
-use Rattle.lent.proofs.Over.{over_none, over_placed, placed_start}
+use Rattle.lent.proofs.Over.{over_none, over_placed}
 use Rattle.reader.specs.Reading.{leads_in, blocks_in}
 
 -- a part of a list has its length
@@ -63,8 +63,3 @@ blocks_more part lead size i e before after h =
     after
     ∙ rw (before, add-one i)
     (over_placed (i * size) (blocks_in part lead size i) (take size (drop (i * (lead + size) + lead) part)) e (length_blocks part lead size i h))
-
--- ---- and the whole of a part
-
-pub whole_placed : (part e : List ℕ) {f : List ℕ} → f ≡ placed 0 (take (length part) (drop 0 part)) e → f ≡ over part e
-whole_placed part e is = is ∙ rw (take-length part) (placed_start part e)

@@ -10,6 +10,8 @@ use borrow.Author.Tests.{eq-eqb, eqb-true, lt-leb}
 use lib.Dec.{eqb}
 use lib.ListN.{length, take, drop, set, length-append}
 use lib.Seq.{take_at, drop_at, length-take-le, drop-append-le}
+use Rattle.std.specs.Prelude.{Result}
+use Rattle.refusals.specs.declared.Refusal.{Refusal}
 use Rattle.lent.specs.Lent.{placed}
 use Rattle.card.specs.declared.Card.{Card}
 use Rattle.card.specs.declared.Held.TheVariants.{Free, Success}
@@ -17,7 +19,7 @@ use Rattle.card.specs.Record.{remade, cleared, holding}
 use Rattle.card.specs.Mark.{released, marked}
 use Rattle.play.specs.declared.Served.{Served}
 use Rattle.play.specs.Refusal.{Accepted}
-use Rattle.play.specs.Events.{replied, mark_event, Leaves}
+use Rattle.play.specs.Events.{replied, mark_event, card_after, Leaves}
 use Rattle.reader.specs.declared.Request.{Request}
 use Rattle.reader.specs.Request.{has_option, frame}
 use Rattle.reader.specs.Shown.{is_called, is_held, mistakes_option, is_outside, relocks, writes_locked, code_of, blocks_held, reading_held, bytes_held, shown_reading, shown_bytes, Shows, memory_written, locks_set}
@@ -95,14 +97,14 @@ module _ (w : Request) (written : List ℕ) (c : Card) (memory : List ℕ) (long
       let p = done_ends met answers.0 z answers.1 in
       let twenty : eqb q.command 0x20 ≡ true = eq-eqb q.command 0x20 is in
       let kept_memory : m' ≡ m = p.memory_left ∙ stored_nothing q (changed_by q (cleared next)) (frame q unused) m (rw is) in
-      let shows : Shows (code_of next l q) r.card m' l' q found' found'' t b k = e.read answers.0 answers.1 found' found'' room room' t b k reads in (
+      let shows : Shows (code_of next l q) (card_after next r) m' l' q found' found'' t b k = e.read answers.0 answers.1 found' found'' room room' t b k reads in (
         shows.reading ∙ rw (eq-eqb (code_of next l q) 0 z, twenty),
         shows.blocks_left ∙ rw (eq-eqb (code_of next l q) 0 z, twenty, kept_memory, held_back q first same),
       )
 
 -- ---- 21
 
-module _ {w : Request} {written : List ℕ} {c : Card} {memory locks found : List ℕ} {r : Served} {m l a : List ℕ}
+module _ {w : Request} {written : List ℕ} {c : Card} {memory locks found : List ℕ} {r : Result Served Refusal} {m l a : List ℕ}
     (met : Meets w written c memory locks found r m l a) (is : w.command ≡ 0x21) (called : is_called c w ≡ true) (z : code_of c locks w ≡ 0) where
   -- what it leaves, and any card of this shape after it
   written_of : (next : Card) → Kept c next → Written w written memory locks next m l
@@ -125,30 +127,30 @@ module _ {w : Request} {written : List ℕ} {c : Card} {memory locks found : Lis
           absurd (omega (arith, is))
       not_22 false e = refl
 
-  written_at_once : is_held w ≡ false → Written w written memory locks r.card m l
+  written_at_once : is_held w ≡ false → Written w written memory locks (card_after c r) m l
   unfolding replied
-  written_at_once n = written_of r.card (rw (done_ends met called z n).card (changed_kept w c))
+  written_at_once n = written_of (card_after c r) (rw (done_ends met called z n).card (changed_kept w c))
 
-  written_at_mark : is_held w ≡ true → (room : List ℕ) → Accepted r.card m l room
-      → (s : Served) (m' l' a' : List ℕ) → Leaves (mark_event r.card m l room) s m' l' a' → Written w written memory locks s.card m' l'
+  written_at_mark : is_held w ≡ true → (room : List ℕ) → Accepted (card_after c r) m l room
+      → (s : Result Served Refusal) (m' l' a' : List ℕ) → Leaves (card_after c r) (mark_event (card_after c r) m l room) s m' l' a' → Written w written memory locks (card_after (card_after c r) s) m' l'
   unfolding replied marked released holding remade
   written_at_mark n room accepted s m' l' a' leaves =
       let next : Card = changed_by w (cleared c) in
       let held : Card = holding Success next in
       let kept : Kept c held = holding_kept c next Success (changed_kept w c) in
-      let p = rw (mark_met r.card m l room accepted, (done_held_ends met called z n).card) at leaves in
-      rw (p.memory_left, p.locks_left) (written_of s.card (rw p.card (holding_kept c held Free kept)))
+      let p = rw (mark_met (card_after c r) m l room accepted, (done_held_ends met called z n).card) at leaves in
+      rw (p.memory_left, p.locks_left) (written_of (card_after (card_after c r) s) (rw ((done_held_ends met called z n).card, p.card) (holding_kept c held Free kept)))
 
 pub written_then_read : (w : Request) (written : List ℕ) (c : Card) (memory locks found : List ℕ) → Fits c memory locks found w → w.command ≡ 0x21
-    → (r : Served) (memoryLeft locksLeft answer : List ℕ) → Sent w written c memory locks found r memoryLeft locksLeft answer
-    → (next : Card) (memoryNext locksNext : List ℕ) → Succeeds w r memoryLeft locksLeft answer next memoryNext locksNext
+    → (r : Result Served Refusal) (memoryLeft locksLeft answer : List ℕ) → Sent w written c memory locks found r memoryLeft locksLeft answer
+    → (next : Card) (memoryNext locksNext : List ℕ) → Succeeds w c r memoryLeft locksLeft answer next memoryNext locksNext
     → Written w written memory locks next memoryNext locksNext
 written_then_read w written c memory locks found fits is r m l a sent = go
   where
     met : Meets w written c memory locks found r m l a
     met = sent_meets w written c memory locks found fits r m l a sent
 
-    go : (next : Card) (m' l' : List ℕ) → Succeeds w r m l a next m' l' → Written w written memory locks next m' l'
+    go : (next : Card) (m' l' : List ℕ) → Succeeds w c r m l a next m' l' → Written w written memory locks next m' l'
     go next m' l' (AtOnce found found' t b k reads e) =
         let went = went_at_once met is found found' t b k reads e in
         written_at_once met is went.0.0 went.0.1 went.1

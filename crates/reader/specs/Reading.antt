@@ -1,14 +1,16 @@
 -- 02, W1: "the reading of its answer into block bytes, lock bytes, system information or an error code. An error answer never shows data."
-use Rattle.std.specs.Prelude.{ℕ, zero, suc, ◌+◌, ◌-◌, ◌*◌, Bool, true, false, cond, ◌&&◌, ◌||◌, List, [], ◌∷◌, ◌++◌, ◌≡◌, leb, eqb, length, take, drop, get_or}
+use Rattle.std.specs.Prelude.{ℕ, zero, suc, ◌+◌, ◌-◌, ◌*◌, Bool, true, false, cond, ◌&&◌, ◌||◌, List, [], ◌∷◌, ◌++◌, ◌≡◌, leb, eqb, length, take, drop, get_or, Option, Some, None, Result, Ok}
+use Rattle.std.specs.Result.{result_ok}
 use Rattle.lent.specs.Lent.{over}
+use Rattle.refusals.specs.declared.Refusal.{Refusal}
+use Rattle.refusals.specs.Number.{number_of}
 use Rattle.crc.specs.Check.{sealed, is_sealed}
 use Rattle.frames.specs.Field.{field_at}
 use Rattle.frames.specs.Frame.{shortest_answer}
 use Rattle.reader.specs.declared.Request.{Request}
 use Rattle.reader.specs.declared.Information.{Information}
 use Rattle.reader.specs.declared.Reading.{Reading}
-use Rattle.reader.specs.declared.Reading.TheVariants.{Nothing, Error, Done, Blocks, Locks, System}
-use Rattle.reader.specs.declared.Told.{Told}
+use Rattle.reader.specs.declared.Reading.TheVariants.{Error, Done, Blocks, Locks, System}
 use Rattle.reader.specs.Request.{has_option, is_request}
 
 -- ---- what a request asks for
@@ -105,32 +107,32 @@ lock_bytes_in q part = cond (reads_blocks q) (leads_in part (lead_of q) q.size (
 
 -- ---- the whole
 
--- all that reading leaves behind: number is the refusal, 0 where it is served
+-- all that reading leaves behind: number is the refusal, 0 where it is served, and then there is a reading
 pub record Outcome : Type 0 where
   pub number : ℕ
-  pub reading : Reading
+  pub reading : Option Reading
   pub blocks : List ℕ
   pub locks : List ℕ
 
-unfoldable pub outcome : ℕ → Reading → List ℕ → List ℕ → Outcome
+unfoldable pub outcome : ℕ → Option Reading → List ℕ → List ℕ → Outcome
 outcome number reading blocks locks = record { number = number; reading = reading; blocks = blocks; locks = locks }
 
 -- "into block bytes, lock bytes, system information": each buffer filled from its start, and past that as found
 unfoldable pub shown_in : Request → List ℕ → List ℕ → List ℕ → Outcome
-shown_in q part blocks locks = outcome 0 (reading_in q part) (over (block_bytes_in q part) blocks) (over (lock_bytes_in q part) locks)
+shown_in q part blocks locks = outcome 0 (Some (reading_in q part)) (over (block_bytes_in q part) blocks) (over (lock_bytes_in q part) locks)
 
 -- "An error answer never shows data."; a refusal changes nothing
 unfoldable pub reading : Request → List ℕ → List ℕ → List ℕ → Outcome
 reading q answer blocks locks =
     let number : ℕ = read_refusal q answer (length blocks) (length locks) in
     cond (eqb number 0)
-    (cond (eqb (get_or answer 0 0) 0x00) (shown_in q (part_of answer) blocks locks) (outcome 0 (Error (get_or answer 1 0)) blocks locks))
-    (outcome number Nothing blocks locks)
+    (cond (eqb (get_or answer 0 0) 0x00) (shown_in q (part_of answer) blocks locks) (outcome 0 (Some (Error (get_or answer 1 0))) blocks locks))
+    (outcome number None blocks locks)
 
--- what `read` promises: what is returned, and every byte of both buffers
-pub record Reads (o : Outcome) (r : Told) (blocks locks : List ℕ) : Type 0 where
-  pub number : r.number ≡ o.number
-  pub reading : r.reading ≡ o.reading
+-- what `read` promises: what is returned, the refusal of that number or the reading, and every byte of both buffers
+pub record Reads (o : Outcome) (r : Result Reading Refusal) (blocks locks : List ℕ) : Type 0 where
+  pub number : number_of r ≡ o.number
+  pub reading : result_ok r ≡ o.reading
   pub blocks_left : blocks ≡ o.blocks
   pub locks_left : locks ≡ o.locks
 
@@ -142,15 +144,15 @@ pub data IsAnswer (q : Request) (answer : List ℕ) : Type 0 where
       → IsAnswer q answer
 
 -- "An error answer never shows data": what any bytes at all leave. Anything but an error is read from flags 00 alone, and an error shows its code
-unfoldable pub shows_data : Reading → Bool
-shows_data Nothing = false
-shows_data (Error code) = false
-shows_data Done = true
-shows_data (Blocks n) = true
-shows_data (Locks n) = true
-shows_data (System information) = true
+unfoldable pub shows_data : Option Reading → Bool
+shows_data None = false
+shows_data (Some (Error code)) = false
+shows_data (Some Done) = true
+shows_data (Some (Blocks n)) = true
+shows_data (Some (Locks n)) = true
+shows_data (Some (System information)) = true
 
-pub record ErrorShowsNothing (answer blocks locks : List ℕ) (r : Told) (blocks' locks' : List ℕ) : Type 0 where
-  pub data_of_success : shows_data r.reading ≡ true → take 1 answer ≡ 0x00 ∷ []
-  pub code_of_error : (code : ℕ) → r.reading ≡ Error code → take 2 answer ≡ 0x01 ∷ code ∷ []
-  pub nothing_shown : shows_data r.reading ≡ false → (blocks' ≡ blocks) × (locks' ≡ locks)
+pub record ErrorShowsNothing (answer blocks locks : List ℕ) (r : Result Reading Refusal) (blocks' locks' : List ℕ) : Type 0 where
+  pub data_of_success : shows_data (result_ok r) ≡ true → take 1 answer ≡ 0x00 ∷ []
+  pub code_of_error : (code : ℕ) → r ≡ Ok (Error code) → take 2 answer ≡ 0x01 ∷ code ∷ []
+  pub nothing_shown : shows_data (result_ok r) ≡ false → (blocks' ≡ blocks) × (locks' ≡ locks)

@@ -1,6 +1,7 @@
 -- 02, W1: "read back as what the card holds": what a request shows of a card, its memory and its lock bytes, with no word of frames and answers.
-use Rattle.std.specs.Prelude.{ℕ, ◌+◌, ◌*◌, Bool, true, false, cond, not, ◌&&◌, ◌||◌, List, [], ◌≡◌, leb, eqb, take, drop, get_or, set}
+use Rattle.std.specs.Prelude.{ℕ, ◌+◌, ◌*◌, Bool, true, false, cond, not, ◌&&◌, ◌||◌, List, [], ◌≡◌, leb, eqb, take, drop, get_or, set, Result, Ok}
 use Rattle.lent.specs.Lent.{over, placed}
+use Rattle.refusals.specs.declared.Refusal.{Refusal}
 use Rattle.card.specs.declared.Card.{Card}
 use Rattle.card.specs.declared.Mode.{Mode}
 use Rattle.card.specs.declared.Mode.TheVariants.{Ready, Quiet, Selected}
@@ -8,7 +9,6 @@ use Rattle.reader.specs.declared.Request.{Request}
 use Rattle.reader.specs.declared.Information.{Information}
 use Rattle.reader.specs.declared.Reading.{Reading}
 use Rattle.reader.specs.declared.Reading.TheVariants.{Error, Done, Blocks, Locks, System}
-use Rattle.reader.specs.declared.Told.{Told}
 use Rattle.reader.specs.Request.{is_addressed, is_for_selected, has_option}
 
 -- 02: "where the card has that block size": 20, 21 and 23, whose blocks have it
@@ -125,10 +125,9 @@ unfoldable pub shown_bytes : ℕ → List ℕ → List ℕ → List ℕ
 shown_bytes code held found = cond (eqb code 0) (over held found) found
 
 -- what reading returns, and what it leaves in the buffers
-pub record Shows (code : ℕ) (c : Card) (memory locks : List ℕ) (q : Request) (blocksFound locksFound : List ℕ) (r : Told) (blocksLeft locksLeft : List ℕ)
+pub record Shows (code : ℕ) (c : Card) (memory locks : List ℕ) (q : Request) (blocksFound locksFound : List ℕ) (r : Result Reading Refusal) (blocksLeft locksLeft : List ℕ)
     : Type 0 where
-  pub number : r.number ≡ 0
-  pub reading : r.reading ≡ shown_reading code c q
+  pub reading : r ≡ Ok (shown_reading code c q)
   pub blocks_left : blocksLeft ≡ shown_bytes code (bytes_held memory q) blocksFound
   pub locks_left : locksLeft ≡ shown_bytes code (marks_held locks q) locksFound
 

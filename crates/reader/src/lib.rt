@@ -34,21 +34,13 @@ pub struct Information {
     pub flags: u8,
 }
 
-// What was read: nothing, where the call was refused; an error's code; success with nothing more; so many bytes of blocks, with their lock bytes
-// where Option asked for them; so many lock bytes; or what the tag says of itself.
+// What was read: an error's code; success with nothing more; so many bytes of blocks, with their lock bytes where Option asked for them; so many
+// lock bytes; or what the tag says of itself.
 #[derive(Clone, Copy)]
 pub enum Reading {
-    Nothing,
     Error(u8),
     Done,
     Blocks(u32),
     Locks(u32),
     System(Information),
-}
-
-// What reading returns: the number of the refusal or 0, and what was read.
-#[derive(Clone, Copy)]
-pub struct Told {
-    pub number: u8,
-    pub reading: Reading,
 }

@@ -1,4 +1,3 @@
-mod Fields
 mod Reading
 mod Putting
 pub mod RoundTrip

@@ -1,14 +1,17 @@
 -- A card put back into the bytes of its record: three fields, the bytes of its state, and the mask. By the laws of `over` and `placed`.
 -- Assumes nothing.
 use mathlib.Core.Path.{◌≡◌, refl, ap, ◌∙◌}
-use mathlib.Core.List.{List, [], ◌∷◌, ◌++◌}
+use mathlib.Core.Bool.{Bool, true, false}
+use mathlib.Core.List.{List, [], ◌∷◌, ◌++◌, append_assoc}
 use Prim.Native.Nat.{ℕ, ◌+◌, ◌≤◌}
 use native.Mathlib.Omega.{arith}
 use lib.ListN.{length, length-append}
 use lib.IntN.{ℤ}
-use lib.Seq.{sets}
+use lib.Seq.{drop-drop}
+use borrow.Rule.Slice.PartMut.{put_mid}
+use Rattle.std.specs.Int.{from_bool}
 use Rattle.lent.specs.Lent.{over, placed}
-use Rattle.lent.proofs.Over.{sets_placed, placed_start, placed_placed, length_over, length_placed}
+use Rattle.lent.proofs.Over.{placed_start, placed_placed, length_over, length_placed}
 use Rattle.frames.specs.Field.{field_bytes, PutsField}
 use Rattle.frames.proofs.Fields.{length_field_bytes}
 use Rattle.frames.proofs.Ways.{puts_served}
@@ -17,14 +20,20 @@ use Rattle.card.specs.declared.Card.{Card}
 use Rattle.record.specs.declared.bytes.Fields.{Fields}
 use Rattle.record.specs.Record.{flag_byte, mode_byte, fields_of, held_byte, state_bytes, front_bytes, record_of}
 
--- ten stores
-pub state_put : (c : Card) (e : List ℕ) {t : Fields} {f g m h : ℕ} → t ≡ fields_of c.sequence → f ≡ flag_byte c.afi_locked → g ≡ flag_byte c.dsfid_locked
-    → m ≡ mode_byte c.mode → h ≡ held_byte c.held → length e ≡ 40
-    → sets e 16 (c.afi ∷ c.dsfid ∷ f ∷ g ∷ c.ic_reference ∷ m ∷ t.running ∷ t.slot ∷ t.length ∷ h ∷ []) ≡ placed 16 (state_bytes c) e
+flag_from : (b : Bool) → from_bool b ≡ flag_byte b
+unfolding flag_byte
+flag_from true = refl
+flag_from false = refl
+
+-- the ten bytes of the state, by what each is made of
+pub state_made : (c : Card) {t : Fields} {f g m h : ℕ} → t ≡ fields_of c.sequence → f ≡ from_bool c.afi_locked → g ≡ from_bool c.dsfid_locked
+    → m ≡ mode_byte c.mode → h ≡ held_byte c.held
+    → ◌≡◌ {A = List ℕ} (c.afi ∷ c.dsfid ∷ f ∷ g ∷ c.ic_reference ∷ m ∷ t.running ∷ t.slot ∷ t.length ∷ h ∷ []) (state_bytes c)
 unfolding state_bytes
-state_put c e s p q u v is =
-    (λ i. sets e 16 (c.afi ∷ c.dsfid ∷ p i ∷ q i ∷ c.ic_reference ∷ u i ∷ (s i).running ∷ (s i).slot ∷ (s i).length ∷ v i ∷ []))
-    ∙ sets_placed 16 (state_bytes c) e (omega arith)
+state_made c s p q u v =
+    let f = p ∙ flag_from c.afi_locked in
+    let g = q ∙ flag_from c.dsfid_locked in
+    λ i. c.afi ∷ c.dsfid ∷ f i ∷ g i ∷ c.ic_reference ∷ u i ∷ (s i).running ∷ (s i).slot ∷ (s i).length ∷ v i ∷ []
 
 -- a field that has room
 field_put : (e : List ℕ) {at count value : ℕ} {r : ℤ} {left : List ℕ} → PutsField e at count value r left → at + count ≤ length e
@@ -47,6 +56,14 @@ field_after s e {at} {count} {value} p is h =
 length_state : (c : Card) → length (state_bytes c) ≡ 10
 unfolding state_bytes
 length_state c = refl
+
+-- a copy of them
+pub state_copied : (c : Card) (e : List ℕ) {s : List ℕ} → s ≡ state_bytes c → put_mid 16 10 e s ≡ placed 16 (state_bytes c) e
+unfolding placed
+state_copied c e is = rw (is, length_state c, drop-drop, append_assoc) refl
+
+pub length_copied : (c : Card) (e : List ℕ) {s : List ℕ} → s ≡ state_bytes c → length e ≡ 40 → length (put_mid 16 10 e s) ≡ 40
+length_copied c e is h = ap length (state_copied c e is) ∙ length_placed 16 (state_bytes c) e (omega (arith, length_state c)) ∙ h
 
 pub length_front : (c : Card) → length (front_bytes c) ≡ 26
 unfolding front_bytes state_bytes

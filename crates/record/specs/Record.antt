@@ -107,7 +107,7 @@ write_number found = cond (eqb (length found) record_length) 0 1
 unfoldable pub write_leaves : Card → List ℕ → List ℕ
 write_leaves c found = cond (eqb (length found) record_length) (record_of c found) found
 
--- what `write` promises: the number r, and the bytes that it leaves
+-- what `write` promises: the number r of its result, and the bytes that it leaves
 pub record Writes (c : Card) (found : List ℕ) (r : ℕ) (left : List ℕ) : Type 0 where
   pub number : r ≡ write_number found
   pub leaves : left ≡ write_leaves c found

@@ -1,16 +1,10 @@
 // The bytes that a card becomes.
 ghost use Rattle.std.specs.Prelude.{◌≡◌, length};
-ghost use Rattle.lent.specs.Lent.{placed};
-ghost use Rattle.record.specs.Record.{flag_byte, mode_byte, fields_of, held_byte, state_bytes, record_of};
+ghost use Rattle.record.specs.Record.{mode_byte, fields_of, held_byte, state_bytes, record_of};
 
 use card::{Card, Held, Mode, Sequence};
 
-fn flag_byte(flag: bool) -> u8
-    ensures { result ≡ flag_byte flag }
-{
-    if flag { 1 } else { 0 }
-}
-
+#[tactic(auto, unfolding(crate::specs::Record::mode_byte))]
 fn mode_byte(mode: Mode) -> u8
     ensures { result ≡ mode_byte mode }
 {
@@ -30,6 +24,7 @@ pub(crate) struct Fields {
     pub mask: u64,
 }
 
+#[tactic(auto, unfolding(crate::specs::Record::fields_of))]
 fn fields_of(sequence: Sequence) -> Fields
     ensures { result ≡ fields_of sequence }
 {
@@ -42,13 +37,14 @@ fn fields_of(sequence: Sequence) -> Fields
         },
         Sequence::Running(slot, length, mask) => Fields {
             running: 1,
-            slot: slot,
-            length: length,
-            mask: mask,
+            slot,
+            length,
+            mask,
         },
     }
 }
 
+#[tactic(auto, unfolding(crate::specs::Record::held_byte))]
 fn held_byte(held: Held) -> u8
     ensures { result ≡ held_byte held }
 {
@@ -59,25 +55,23 @@ fn held_byte(held: Held) -> u8
     }
 }
 
-// Bytes 16 to 25.
-fn put_state(card: Card, bytes: &mut [u8])
-    requires { length bytes.old ≡ 40 }
-    ensures { bytes.new ≡ placed 16 (state_bytes card) bytes.old }
+// Bytes 16 to 25, with the fields of the card's sequence.
+fn state_bytes(card: Card, fields: Fields) -> [u8; 10]
+    requires { fields ≡ fields_of card.sequence }
+    ensures { result ≡ state_bytes card }
 {
-    let mode = card.mode;
-    let sequence = card.sequence;
-    let held = card.held;
-    let fields = fields_of(sequence);
-    bytes[16] = card.afi;
-    bytes[17] = card.dsfid;
-    bytes[18] = flag_byte(card.afi_locked);
-    bytes[19] = flag_byte(card.dsfid_locked);
-    bytes[20] = card.ic_reference;
-    bytes[21] = mode_byte(mode);
-    bytes[22] = fields.running;
-    bytes[23] = fields.slot;
-    bytes[24] = fields.length;
-    bytes[25] = held_byte(held);
+    [
+        card.afi,
+        card.dsfid,
+        u8::from(card.afi_locked),
+        u8::from(card.dsfid_locked),
+        card.ic_reference,
+        mode_byte(card.mode),
+        fields.running,
+        fields.slot,
+        fields.length,
+        held_byte(card.held),
+    ]
 }
 
 // Puts a card back. Bytes 26 to 31 stay.
@@ -85,11 +79,10 @@ pub(crate) fn put_card(card: Card, bytes: &mut [u8])
     requires { length bytes.old ≡ 40 }
     ensures { bytes.new ≡ record_of card bytes.old }
 {
-    let sequence = card.sequence;
-    let fields = fields_of(sequence);
-    frames::put_field(bytes, 0, 8, card.uid);
-    frames::put_field(bytes, 8, 4, card.blocks as u64);
-    frames::put_field(bytes, 12, 4, card.size as u64);
-    put_state(card, bytes);
-    frames::put_field(bytes, 32, 8, fields.mask);
+    let fields = fields_of(card.sequence);
+    frames::put_field(bytes, 0, 8, card.uid).unwrap();
+    frames::put_field(bytes, 8, 4, u64::from(card.blocks)).unwrap();
+    frames::put_field(bytes, 12, 4, u64::from(card.size)).unwrap();
+    bytes[16..26].copy_from_slice(&state_bytes(card, fields));
+    frames::put_field(bytes, 32, 8, fields.mask).unwrap();
 }

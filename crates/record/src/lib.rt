@@ -5,16 +5,19 @@ mod bytes;
 mod meaning;
 
 ghost use Rattle.std.specs.Prelude.{◌≡◌};
+ghost use Rattle.refusals.specs.Number.{number_of};
 ghost use Rattle.record.specs.Record.{card_read, Writes};
 
 use crate::bytes::put_card;
 use crate::meaning::{card_of, no_card};
 use card::Card;
+use refusals::Refusal;
 
 // The length of the record.
 const LENGTH: usize = 40;
 
 // The card that the bytes mean. Bytes of another length mean a card of no blocks, which number 1 refuses.
+#[tactic(auto, unfolding(crate::specs::Record::card_read, crate::specs::Record::record_length))]
 pub fn read(bytes: &[u8]) -> Card
     ensures { result ≡ card_read bytes.now }
 {
@@ -24,13 +27,14 @@ pub fn read(bytes: &[u8]) -> Card
     card_of(bytes)
 }
 
-// Writes a card, and gives 0; bytes of another length stay, and that is number 1.
-pub fn write(card: Card, bytes: &mut [u8]) -> u8
-    ensures { Writes card bytes.old result bytes.new }
+// Writes a card. Bytes of another length stay.
+#[tactic(auto, unfolding(crate::specs::Record::write_number, crate::specs::Record::write_leaves, crate::specs::Record::record_length, refusals::specs::Number::number, refusals::specs::Number::number_of))]
+pub fn write(card: Card, bytes: &mut [u8]) -> Result<(), Refusal>
+    ensures { Writes card bytes.old (number_of result) bytes.new }
 {
     if bytes.len() != LENGTH {
-        return 1;
+        return Err(Refusal::CardRecord);
     }
     put_card(card, bytes);
-    0
+    Ok(())
 }

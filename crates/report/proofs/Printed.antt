@@ -34,22 +34,18 @@ pub lines_more : (list : List ℕ) (i : ℕ) → i < length list
 unfolding uid_lines
 lines_more list i h = rw (add-one, take-suc list i 0 h, lines_append) refl
 
-pub lines_puts_none : (at : ℕ) (list e : List ℕ) → PutsAt at (uid_lines (take 0 list)) e (at + 17 * 0) e
+pub lines_puts_none : (at : ℕ) (list e : List ℕ) → PutsAt at (uid_lines (take 0 list)) e at e
 unfolding uid_lines
-lines_puts_none at list e =
-    let here : at + 17 * 0 ≡ at = omega arith in
-    rw here (puts_none at e)
+lines_puts_none at list e = puts_none at e
 
-pub lines_puts_more : {at m : ℕ} {e f g : List ℕ} (list : List ℕ) (i : ℕ) → PutsAt at (uid_lines (take i list)) e (at + 17 * i) f
-    → PutsAt (at + 17 * i) (hex_digits 16 (get_or list i 0)) f m g → i < length list → length f ≡ length e → at + 17 * i + 17 ≤ length e
-    → PutsAt at (uid_lines (take (i + 1) list)) e (at + 17 * (i + 1)) (set g m 0x0a)
-lines_puts_more {at} {m} {e} {f} {g} list i p q h same k =
+pub lines_puts_more : {at n m : ℕ} {e f g : List ℕ} (list : List ℕ) (i : ℕ) → n ≡ at + 17 * i → PutsAt at (uid_lines (take i list)) e n f
+    → PutsAt n (hex_digits 16 (get_or list i 0)) f m g → i < length list → length f ≡ length e → at + 17 * i + 17 ≤ length e
+    → PutsAt at (uid_lines (take (i + 1) list)) e (m + 1) (set g m 0x0a)
+lines_puts_more {at} {n} {m} {e} {f} {g} list i here p q h same k =
     let digits : length (hex_digits 16 (get_or list i 0)) ≡ 16 = length_hex_digits 16 (get_or list i 0) in
-    let end : m ≡ at + 17 * i + length (hex_digits 16 (get_or list i 0)) = q.next in
-    let next : at + 17 * (i + 1) ≡ m + 1 = omega arith in
     let line : length (hex_digits 16 (get_or list i 0) ++ 0x0a ∷ []) ≡ length (hex_digits 16 (get_or list i 0)) + 1 =
     length-append (hex_digits 16 (get_or list i 0)) (0x0a ∷ []) in
-    rw (next, lines_more list i h) (puts_then p (puts_more 0x0a q (omega arith)) (omega arith))
+    rw (lines_more list i h) (puts_then p (puts_more 0x0a q (omega arith)) (omega arith))
 
 pub lines_most : (n : ℕ) (list : List ℕ) → length (uid_lines (take n list)) ≤ 17 * n
 lines_most n list = rw (length_lines, length-take) (omega arith)

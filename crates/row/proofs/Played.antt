@@ -7,7 +7,7 @@ use native.Mathlib.Omega.{arith}
 use mathlib.Core.Bool.{Bool, true, false, cond, ◌&&◌, and-eq-true_iff}
 use mathlib.Core.List.{List}
 use mathlib.Core.Path.{◌≡◌, refl, sym, ◌∙◌, ap, subst}
-use borrow.Author.Tests.{ltb-true, ltb-false, eqb-false, ne_eqb}
+use borrow.Author.Tests.{ltb-true, ltb-false, le-ltb, eqb-false, ne_eqb}
 use lib.Dec.{T, ltb, eqb}
 use lib.ListN.{take}
 use Rattle.card.specs.declared.Card.{Card}
@@ -88,3 +88,8 @@ playing_over end k desk row p e = go (ltb k (most_slots levels)) (eqb desk.walk.
 pub still_few : (desk : Desk) (k : ℕ) → goes_on desk k ≡ true → k < most_slots levels
 unfolding goes_on
 still_few desk k e = ltb-true k (most_slots levels) ((and-eq-true_iff (ltb k (most_slots levels)) _).0 e).0
+
+-- all that a walk can have are played
+pub all_played : (desk : Desk) (k : ℕ) → most_slots levels ≤ k → goes_on desk k ≡ false
+unfolding goes_on
+all_played desk k h = rw (le-ltb k (most_slots levels) h)

@@ -1,7 +1,7 @@
 -- A slot over the first n cards of a row of 100: its parts are the definition's, and what the first n cards become is a slot of a row of n.
 -- By induction over the row. Assumes nothing.
 use mathlib.Core.Path.{◌≡◌, refl, ap, ◌∙◌}
-use Prim.Native.Nat.{ℕ, zero, suc}
+use Prim.Native.Nat.{ℕ, zero, suc, min}
 use mathlib.Core.List.{List, [], ◌∷◌, ◌++◌}
 use lib.ListN.{length, take, drop}
 use Rattle.card.specs.declared.Card.{Card}
@@ -9,17 +9,16 @@ use Rattle.walk.specs.declared.Walk.{Walk}
 use Rattle.row.specs.declared.Air.{Air}
 use Rattle.row.specs.declared.Desk.{Desk}
 use Rattle.row.specs.Row.{turn_of, still_air, row_air, row_after, HearsRow, desk_after}
-use Rattle.row.specs.Steps.{at_most}
 use Rattle.row.specs.Play.{slot_air, slot_row, slotted}
 use Rattle.row.proofs.AtMost.{take_most, drop_most}
 
-pub slot_made : (row left : List Card) (n m : ℕ) (d next : Desk) (air : Air) → length row ≡ 100 → m ≡ at_most 100 n
+pub slot_made : (row left : List Card) (n m : ℕ) (d next : Desk) (air : Air) → length row ≡ 100 → m ≡ min n 100
     → HearsRow d.walk (take m row) air left → next ≡ desk_after d air → record { row = left ++ drop m row; desk = next; air = air } ≡ slotted row n d
 unfolding slotted slot_air slot_row
 slot_made row left n m d next air l is h e =
     let w : Walk = d.walk in
-    let first : take m row ≡ take n row = ap (λ (k : ℕ). take k row) is ∙ take_most 100 n row l in
-    let rest : drop m row ≡ drop n row = ap (λ (k : ℕ). drop k row) is ∙ drop_most 100 n row l in
+    let first : take m row ≡ take n row = take_most 100 n m row l is in
+    let rest : drop m row ≡ drop n row = drop_most 100 n m row l is in
     let heard : air ≡ row_air w still_air (take n row) = h.air ∙ ap (row_air w still_air) first in
     let after : left ≡ row_after w (take n row) = h.row_left ∙ ap (row_after w) first in
     λ i. record { row = after i ++ rest i; desk = (e ∙ ap (desk_after d) heard) i; air = heard i }

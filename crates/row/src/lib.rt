@@ -36,10 +36,3 @@ struct Sent {
     send: Send,
     bytes: [u8; 14],
 }
-
-// A card after a slot, and what is then in the air.
-#[derive(Clone, Copy)]
-struct Listened {
-    card: Card,
-    air: Air,
-}

@@ -1,10 +1,10 @@
 // The walk with its list, slot after slot over the row.
-ghost use Rattle.std.specs.Prelude.{◌≡◌, ℕ, ◌≤◌, take};
+ghost use Rattle.std.specs.Prelude.{◌≡◌, take};
 ghost use Rattle.row.specs.Row.{air_kind, desk_after, cards_of};
-ghost use Rattle.row.specs.Steps.{at_most, bytes_heard};
+ghost use Rattle.row.specs.Steps.{bytes_heard};
 ghost use Rattle.row.specs.Play.{fresh_desk, slotted, goes_on, ended};
 
-use crate::row::{at_most, card_of, listen_row};
+use crate::row::{card_of, listen_row};
 use crate::{Air, Desk, Slotted};
 use card::Card;
 use walk::{Kind, MOST_ROUNDS, Walk};
@@ -13,6 +13,7 @@ use walk::{Kind, MOST_ROUNDS, Walk};
 const MOST_SLOTS: u32 = 16 * (MOST_ROUNDS as u32);
 
 // A fresh walk of no family, with an empty list.
+#[tactic(auto, unfolding(crate::specs::Play::fresh_desk, crate::specs::Play::no_uids))]
 pub fn fresh() -> Desk
     ensures { result ≡ fresh_desk }
 {
@@ -26,25 +27,18 @@ pub fn fresh() -> Desk
 pub fn deal(uids: [u64; 100]) -> [Card; 100]
     ensures { result ≡ cards_of uids }
 {
-    let mut row = [card_of(0); 100];
-    let mut i = 0;
-    while i < 100 {
-        row[i] = card_of(uids[i]);
-        i += 1;
-    }
-    row
+    uids.map(card_of)
 }
 
+#[tactic(auto, unfolding(crate::specs::Row::air_kind))]
 fn kind_of(air: Air) -> Kind
     ensures { result ≡ air_kind air }
 {
-    if air.answers == 0 {
-        return Kind::Silence;
+    match air.answers {
+        0 => Kind::Silence,
+        1 => Kind::Bytes,
+        _ => Kind::Clash,
     }
-    if air.answers == 1 {
-        return Kind::Bytes;
-    }
-    Kind::Clash
 }
 
 // The bytes of the answer in the air, where there is just one.
@@ -54,24 +48,22 @@ fn answer_in(air: Air) -> [u8; 12]
     let mut bytes = [0u8; 12];
     if air.answers == 1 {
         bytes[1] = air.dsfid;
-        frames::put_field(&mut bytes, 2, 8, air.uid);
-        frames::seal(&mut bytes, 10);
+        // Twelve bytes have room for the UID and the check.
+        let _ = frames::put_field(&mut bytes, 2, 8, air.uid);
+        let _ = frames::seal(&mut bytes, 10);
     }
     bytes
 }
 
-// The answer in the air reaches the walk.
+// The answer in the air reaches the walk. One that refuses to hear stays as it is.
 pub fn hear(desk: Desk, air: Air) -> Desk
     ensures { result ≡ desk_after desk air }
 {
-    let bytes = answer_in(air);
-    let walk = desk.walk;
     let mut list = desk.list;
-    let heard = walk.hear(kind_of(air), &bytes, &mut list);
-    let next = heard.walk;
+    let heard = desk.walk.hear(kind_of(air), &answer_in(air), &mut list);
     Desk {
-        walk: next,
-        list: list,
+        walk: heard.unwrap_or(desk.walk),
+        list,
     }
 }
 
@@ -79,47 +71,35 @@ pub fn hear(desk: Desk, air: Air) -> Desk
 pub fn slot(mut row: [Card; 100], n: usize, desk: Desk) -> Slotted
     ensures { result ≡ slotted row n desk }
 {
-    let m = at_most(100, n);
-    let air = listen_row(&mut row[..m], desk.walk);
-    let next = hear(desk, air);
+    let air = listen_row(&mut row[..n.min(100)], desk.walk);
     Slotted {
-        row: row,
-        desk: next,
-        air: air,
+        row,
+        desk: hear(desk, air),
+        air,
     }
 }
 
 // Whether a slot is still to be heard after n.
+#[tactic(auto, unfolding(crate::specs::Play::goes_on, walk::specs::Record::most_slots, walk::specs::Record::most_rounds, walk::specs::Marks::levels, walk::specs::Record::is_running))]
 pub fn goes_on(desk: Desk, n: u32) -> bool
     ensures { result ≡ goes_on desk n }
 {
-    let walk = desk.walk;
-    if n < MOST_SLOTS {
-        walk.ending == 0
-    } else {
-        false
-    }
+    n < MOST_SLOTS && desk.walk.ending == 0
 }
 
-// A fresh walk over the cards of the first n UIDs, to its end: for each slot they are lent where they stand. Any k that counts as n will do.
-fn play_over(uids: [u64; 100], n: usize) -> Desk
-    requires { n ≤ 100 }
-    ensures { (k : ℕ) → at_most 100 k ≡ n → result ≡ ended (take k uids) }
-{
-    let mut row = deal(uids);
-    let mut desk = fresh();
-    let mut slot = 0;
-    while goes_on(desk, slot) {
-        let air = listen_row(&mut row[..n], desk.walk);
-        desk = hear(desk, air);
-        slot += 1;
-    }
-    desk
-}
-
-// The same of any number of cards, over 100 of 100.
+// A fresh walk over the cards of the first n UIDs, over 100 of 100, to its end: for each slot they are lent where they stand.
 pub fn play(uids: [u64; 100], n: usize) -> Desk
     ensures { result ≡ ended (take n uids) }
 {
-    play_over(uids, at_most(100, n))
+    let cards = n.min(100);
+    let mut row = deal(uids);
+    let mut desk = fresh();
+    for slot in 0..MOST_SLOTS {
+        if !goes_on(desk, slot) {
+            break;
+        }
+        let air = listen_row(&mut row[..cards], desk.walk);
+        desk = hear(desk, air);
+    }
+    desk
 }

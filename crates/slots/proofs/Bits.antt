@@ -1,17 +1,27 @@
--- Numbers below a power of two, as shifts make it. Assumes nothing.
-use mathlib.Core.Path.{◌≡◌, ◌∙◌}
-use Prim.Native.Nat.{ℕ, ◌*◌, ◌%◌, ◌^◌, ◌≤◌, ◌<◌}
-use native.Mathlib.Nat.{lt_of_lt_of_le}
+-- Numbers and powers of two: a shift by 64 or more leaves nothing, and a number below a power has no bit from it on. Assumes nothing.
+use mathlib.Core.Path.{◌≡◌, sym}
+use Prim.Native.Nat.{ℕ, ◌/◌, ◌^◌, ◌≤◌, ◌<◌}
+use native.Mathlib.Decide.{dec_lt}
+use native.Mathlib.Nat.{lt_of_lt_of_le, div-eq_of_lt}
 use native.Mathlib.Omega.{arith}
-use lib.Pow.{pow_mono, pow_pos, shl_exact}
+use borrow.Author.Tests.{ne_eqb, lt-ltb, le-ltb}
+use lib.Dec.{eqb, ltb}
+use lib.Pow.{pow_mono, pow_pos}
+use Rattle.std.specs.Prelude.{Option, Some, None, SomeIff}
+use Rattle.std.proofs.lemmas.Nat.{le-div}
+use Rattle.std.specs.Option.{unwrap_or}
 
 -- a 64-bit number is below a power of 64 or more
 pub below_power : (v n : ℕ) → v < 2 ^ 64 → 64 ≤ n → v < 2 ^ n
 below_power v n h k = lt_of_lt_of_le h (pow_mono k)
 
--- a bit at a place below 64
-pub bit_at : (n : ℕ) → n < 64 → 1 * 2 ^ n % 18446744073709551616 ≡ 2 ^ n
-bit_at n h = shl_exact {a = 1} 1 n 64 (omega arith) (omega arith) ∙ omega arith
+pub shifted_or_none : (v n : ℕ) (r : Option ℕ) → v < 2 ^ 64 → SomeIff r (n < 64) (v / 2 ^ n) → unwrap_or r 0 ≡ v / 2 ^ n
+shifted_or_none v n (Some x) h known = known.1
+shifted_or_none v n None h known = sym (div-eq_of_lt (below_power v n h (omega (arith, known))))
 
-pub bit_positive : (n : ℕ) → n < 64 → 0 < 1 * 2 ^ n % 18446744073709551616
-bit_positive n h = rw (bit_at n h) (pow_pos n)
+pub none_above : (v n : ℕ) → eqb (v / 2 ^ n) 0 ≡ ltb v (2 ^ n)
+none_above v n = go (dec_lt v (2 ^ n))
+  where
+    go : Dec (v < 2 ^ n) → eqb (v / 2 ^ n) 0 ≡ ltb v (2 ^ n)
+    go (yes h) = rw (div-eq_of_lt h, lt-ltb v (2 ^ n) h)
+    go (no h) = rw (le-ltb v (2 ^ n) (omega arith), ne_eqb (v / 2 ^ n) 0 (λ e. let one : 1 ≤ v / 2 ^ n = le-div 1 v (2 ^ n) (pow_pos n) (omega arith) in omega (arith, e, one)))

@@ -8,37 +8,31 @@ ghost use Rattle.slots.specs.Fits.{mask_bytes, fits_mask, fits_slot};
 pub fn low_bits(v: u64, n: u8) -> u64
     ensures { result ≡ v % 2 ^ n }
 {
-    if 64 <= n {
-        return v;
+    match 1u64.checked_shl(u32::from(n)) {
+        Some(power) => v % power,
+        None => v,
     }
-    v % (1u64 << n)
 }
 
 // A number without its low n bits.
 pub fn high_bits(v: u64, n: u8) -> u64
     ensures { result ≡ v / 2 ^ n }
 {
-    if 64 <= n {
-        return 0;
-    }
-    v >> n
+    v.checked_shr(u32::from(n)).unwrap_or(0)
 }
 
 // Whether no bit of a mask stands at its length or above. A length of 64 or more has room for all.
 pub fn is_below(mask: u64, n: u8) -> bool
     ensures { result ≡ ltb mask (2 ^ n) }
 {
-    if 64 <= n {
-        return true;
-    }
-    mask < 1u64 << n
+    high_bits(mask, n) == 0
 }
 
 // How many bytes hold a mask of n bits.
 pub fn mask_bytes(n: u8) -> usize
     ensures { result ≡ mask_bytes n }
 {
-    ((n as usize) + 7) / 8
+    usize::from(n).div_ceil(8)
 }
 
 // Whether a mask of n bits calls a UID.
@@ -52,9 +46,5 @@ pub fn fits_mask(uid: u64, n: u8, mask: u64) -> bool
 pub fn fits_slot(uid: u64, n: u8, mask: u64, slot: u8) -> bool
     ensures { result ≡ fits_slot uid n mask slot }
 {
-    if fits_mask(uid, n, mask) {
-        high_bits(uid, n) % 16 == slot as u64
-    } else {
-        false
-    }
+    fits_mask(uid, n, mask) && high_bits(uid, n) % 16 == u64::from(slot)
 }

@@ -12,23 +12,25 @@ use prog.Routine.{Routine}
 use types.Logic.{Logic}
 use contract.Monad.{Fun}
 use Rattle.std.specs.Prelude.{is_ok}
+use Rattle.refusals.specs.Number.{number, number_back}
+use Rattle.refusals.proofs.Numbers.{number_back_tells}
 use Rattle.crc.specs.Check.{check_of, is_sealed}
 use Rattle.frames.specs.Flags.{flags_of}
 use Rattle.frames.specs.Field.{PutsField, field_at, field_of}
 use Rattle.frames.specs.Frame.{Seals, is_sound}
-use Rattle.digits.specs.Digits.{digit, digit_of, has_form, hex_digits, number_at}
+use Rattle.digits.specs.Digits.{digit, digit_value, has_form, hex_digits, number_at}
 use Rattle.digits.specs.Decimal.{decimal}
 use Rattle.digits.specs.Rows.{ReadsRow, is_row, row_text}
 use Rattle.digits.specs.Put.{PutsText}
 use Rattle.slots.specs.Fits.{fits_mask, fits_slot, mask_bytes}
 use Rattle.tracks.specs.Coder.{Codes}
-use Rattle.tracks.specs.Decoder.{Decodes}
+use Rattle.tracks.specs.Decoded.{DecodesTo}
 use Rattle.coil.specs.Coder.{CodesAnswer}
-use Rattle.coil.specs.Decoder.{DecodesAnswer}
-use Rattle.frames.proofs.Unique.{put_field_unique, seal_unique}
+use Rattle.coil.specs.Decoded.{DecodesAnswerTo}
+use Rattle.frames.proofs.Unique.{put_field_result_unique, seal_result_unique}
 use Rattle.digits.proofs.Unique.{read_row_unique, put_text_unique}
-use Rattle.tracks.proofs.Unique.{code_unique, decode_unique}
-use Rattle.coil.proofs.Unique.{coil_code_unique, coil_decode_unique}
+use Rattle.tracks.proofs.Unique.{code_result_unique, decode_result_unique}
+use Rattle.coil.proofs.Unique.{coil_code_result_unique, coil_decode_result_unique}
 use Rattle.crc.specs.contracts.check as crc_check
 use Rattle.crc.specs.contracts.is_sealed as crc_is_sealed
 use Rattle.frames.specs.contracts.Flags.of as frames_flags_of
@@ -48,6 +50,7 @@ use Rattle.digits.specs.contracts.put_row as digits_put_row
 use Rattle.digits.specs.contracts.put_bytes as digits_put_bytes
 use Rattle.digits.specs.contracts.put_digits as digits_put_digits
 use Rattle.digits.specs.contracts.put_decimal as digits_put_decimal
+use Rattle.refusals.specs.contracts.Refusal.number as refusal_number
 use Rattle.slots.specs.contracts.low_bits as slots_low_bits
 use Rattle.slots.specs.contracts.high_bits as slots_high_bits
 use Rattle.slots.specs.contracts.is_below as slots_is_below
@@ -59,11 +62,18 @@ use Rattle.tracks.specs.contracts.decoder.decode as tracks_decode
 use Rattle.coil.specs.contracts.coder.code as coil_code
 use Rattle.coil.specs.contracts.decoder.decode as coil_decode
 use Rattle.input.specs.contracts.wrote as input_wrote
+use Rattle.input.proofs.Unique.{wrote_unique}
 use Rattle.theorems.specs.Contract.{Contract}
 use Rattle.theorems.proofs.Kept.{kept}
 
 -- 𝓤 to run: any model of the logic, as every function's own theorem has it
 module _ {M : Type 1} {𝓤 : Ura M} (𝓛 : Logic 𝓤) (mem : Memory → SProp 𝓤) (run : Routine → Fun 𝓤) where
+  -- ---- refusals
+
+  refusal_number_contract : Contract 𝓛 refusal_number.ended (refusal_number.spec 𝓛 mem run) (refusal_number.clauses 𝓛 mem run)
+      (λ κs a r e. r ≡ number a.0)
+  refusal_number_contract = kept 𝓛 refusal_number.ended _ _ _ refl (λ κs a. (tt, id⊢ 𝓤 _)) (λ κs a g r e. id⊢ 𝓤 _) (λ κs a r s x y p q. (p ∙ sym q, refl))
+
   -- ---- crc
 
   crc_check_contract : Contract 𝓛 crc_check.ended (crc_check.spec 𝓛 mem run) (crc_check.clauses 𝓛 mem run)
@@ -93,16 +103,16 @@ module _ {M : Type 1} {𝓤 : Ura M} (𝓛 : Logic 𝓤) (mem : Memory → SProp
   frames_field_contract = kept 𝓛 frames_field.ended _ _ _ refl (λ κs a. (tt, id⊢ 𝓤 _)) (λ κs a g r e. id⊢ 𝓤 _) (λ κs a r s x y p q. (p ∙ sym q, refl))
 
   frames_put_field_contract : Contract 𝓛 frames_put_field.ended (frames_put_field.spec 𝓛 mem run) (frames_put_field.clauses 𝓛 mem run)
-      (λ κs a r e. PutsField a.0.now a.1.0 a.1.1.0 a.1.1.1.0 r e.0.now)
+      (λ κs a r e. PutsField a.0.now a.1.0 a.1.1.0 a.1.1.1.0 (number_back r) e.0.now)
   frames_put_field_contract =
       kept 𝓛 frames_put_field.ended _ _ _ refl (λ κs a. (tt, id⊢ 𝓤 _)) (λ κs a g r e. id⊢ 𝓤 _)
-      (λ κs a r s x y p q. let u : _ = put_field_unique p q in (u.0, λ i. (u.1 i, (tt, (tt, (tt, tt))))))
+      (λ κs a r s x y p q. let u : _ = put_field_result_unique r s p q in (u.0, λ i. (u.1 i, (tt, (tt, (tt, tt))))))
 
   frames_seal_contract : Contract 𝓛 frames_seal.ended (frames_seal.spec 𝓛 mem run) (frames_seal.clauses 𝓛 mem run)
-      (λ κs a r e. Seals a.0.now a.1.0 r e.0.now)
+      (λ κs a r e. Seals a.0.now a.1.0 (number_back r) e.0.now)
   frames_seal_contract =
       kept 𝓛 frames_seal.ended _ _ _ refl (λ κs a. (tt, id⊢ 𝓤 _)) (λ κs a g r e. id⊢ 𝓤 _)
-      (λ κs a r s x y p q. let u : _ = seal_unique p q in (u.0, λ i. (u.1 i, (tt, tt))))
+      (λ κs a r s x y p q. let u : _ = seal_result_unique r s p q in (u.0, λ i. (u.1 i, (tt, tt))))
 
   frames_is_sound_contract : Contract 𝓛 frames_is_sound.ended (frames_is_sound.spec 𝓛 mem run) (frames_is_sound.clauses 𝓛 mem run)
       (λ κs a r e. r ≡ is_sound a.0.now)
@@ -111,7 +121,7 @@ module _ {M : Type 1} {𝓤 : Ura M} (𝓛 : Logic 𝓤) (mem : Memory → SProp
   -- ---- hex
 
   digits_digit_of_contract : Contract 𝓛 digits_digit_of.ended (digits_digit_of.spec 𝓛 mem run) (digits_digit_of.clauses 𝓛 mem run)
-      (λ κs a r e. r ≡ digit_of a.0)
+      (λ κs a r e. r ≡ digit_value a.0)
   digits_digit_of_contract = kept 𝓛 digits_digit_of.ended _ _ _ refl (λ κs a. (tt, id⊢ 𝓤 _)) (λ κs a g r e. id⊢ 𝓤 _) (λ κs a r s x y p q. (p ∙ sym q, refl))
 
   digits_digit_contract : Contract 𝓛 digits_digit.ended (digits_digit.spec 𝓛 mem run) (digits_digit.clauses 𝓛 mem run)
@@ -131,34 +141,34 @@ module _ {M : Type 1} {𝓤 : Ura M} (𝓛 : Logic 𝓤) (mem : Memory → SProp
   digits_is_row_contract = kept 𝓛 digits_is_row.ended _ _ _ refl (λ κs a. (tt, id⊢ 𝓤 _)) (λ κs a g r e. id⊢ 𝓤 _) (λ κs a r s x y p q. (p ∙ sym q, refl))
 
   digits_read_row_contract : Contract 𝓛 digits_read_row.ended (digits_read_row.spec 𝓛 mem run) (digits_read_row.clauses 𝓛 mem run)
-      (λ κs a r e. ReadsRow a.0.now a.1.0.now r e.1.0.now)
+      (λ κs a r e. ReadsRow a.0.now a.1.0.now (number_back r) e.1.0.now)
   digits_read_row_contract =
       kept 𝓛 digits_read_row.ended _ _ _ refl (λ κs a. (tt, id⊢ 𝓤 _)) (λ κs a g r e. id⊢ 𝓤 _)
-      (λ κs a r s x y p q. let u : _ = read_row_unique p q in (u.0, λ i. (tt, (u.1 i, tt))))
+      (λ κs a r s x y p q. let u : _ = read_row_unique p q in (number_back_tells r s u.0, λ i. (tt, (u.1 i, tt))))
 
   digits_put_row_contract : Contract 𝓛 digits_put_row.ended (digits_put_row.spec 𝓛 mem run) (digits_put_row.clauses 𝓛 mem run)
-      (λ κs a r e. PutsText (row_text a.0.now) a.1.0.now a.1.1.0 r e.1.0.now)
+      (λ κs a r e. PutsText (row_text a.0.now) a.1.0.now a.1.1.0 (number_back r) e.1.0.now)
   digits_put_row_contract =
       kept 𝓛 digits_put_row.ended _ _ _ refl (λ κs a. (tt, id⊢ 𝓤 _)) (λ κs a g r e. id⊢ 𝓤 _)
-      (λ κs a r s x y p q. let u : _ = put_text_unique p q in (u.0, λ i. (tt, (u.1 i, (tt, tt)))))
+      (λ κs a r s x y p q. let u : _ = put_text_unique p q in (number_back_tells r s u.0, λ i. (tt, (u.1 i, (tt, tt)))))
 
   digits_put_bytes_contract : Contract 𝓛 digits_put_bytes.ended (digits_put_bytes.spec 𝓛 mem run) (digits_put_bytes.clauses 𝓛 mem run)
-      (λ κs a r e. PutsText a.0.now a.1.0.now a.1.1.0 r e.1.0.now)
+      (λ κs a r e. PutsText a.0.now a.1.0.now a.1.1.0 (number_back r) e.1.0.now)
   digits_put_bytes_contract =
       kept 𝓛 digits_put_bytes.ended _ _ _ refl (λ κs a. (tt, id⊢ 𝓤 _)) (λ κs a g r e. id⊢ 𝓤 _)
-      (λ κs a r s x y p q. let u : _ = put_text_unique p q in (u.0, λ i. (tt, (u.1 i, (tt, tt)))))
+      (λ κs a r s x y p q. let u : _ = put_text_unique p q in (number_back_tells r s u.0, λ i. (tt, (u.1 i, (tt, tt)))))
 
   digits_put_digits_contract : Contract 𝓛 digits_put_digits.ended (digits_put_digits.spec 𝓛 mem run) (digits_put_digits.clauses 𝓛 mem run)
-      (λ κs a r e. PutsText (hex_digits a.1.0 a.0) a.1.1.0.now a.1.1.1.0 r e.1.1.0.now)
+      (λ κs a r e. PutsText (hex_digits a.1.0 a.0) a.1.1.0.now a.1.1.1.0 (number_back r) e.1.1.0.now)
   digits_put_digits_contract =
       kept 𝓛 digits_put_digits.ended _ _ _ refl (λ κs a. (tt, id⊢ 𝓤 _)) (λ κs a g r e. id⊢ 𝓤 _)
-      (λ κs a r s x y p q. let u : _ = put_text_unique p q in (u.0, λ i. (tt, (tt, (u.1 i, (tt, tt))))))
+      (λ κs a r s x y p q. let u : _ = put_text_unique p q in (number_back_tells r s u.0, λ i. (tt, (tt, (u.1 i, (tt, tt))))))
 
   digits_put_decimal_contract : Contract 𝓛 digits_put_decimal.ended (digits_put_decimal.spec 𝓛 mem run) (digits_put_decimal.clauses 𝓛 mem run)
-      (λ κs a r e. PutsText (decimal a.0) a.1.0.now a.1.1.0 r e.1.0.now)
+      (λ κs a r e. PutsText (decimal a.0) a.1.0.now a.1.1.0 (number_back r) e.1.0.now)
   digits_put_decimal_contract =
       kept 𝓛 digits_put_decimal.ended _ _ _ refl (λ κs a. (tt, id⊢ 𝓤 _)) (λ κs a g r e. id⊢ 𝓤 _)
-      (λ κs a r s x y p q. let u : _ = put_text_unique p q in (u.0, λ i. (tt, (u.1 i, (tt, tt)))))
+      (λ κs a r s x y p q. let u : _ = put_text_unique p q in (number_back_tells r s u.0, λ i. (tt, (u.1 i, (tt, tt)))))
 
   -- ---- slots
 
@@ -189,33 +199,34 @@ module _ {M : Type 1} {𝓤 : Ura M} (𝓛 : Logic 𝓤) (mem : Memory → SProp
   -- ---- tracks
 
   tracks_code_contract : Contract 𝓛 tracks_code.ended (tracks_code.spec 𝓛 mem run) (tracks_code.clauses 𝓛 mem run)
-      (λ κs a r e. Codes a.0.now a.1.0 a.1.1.0.now r e.1.1.0.now)
+      (λ κs a r e. Codes a.0.now a.1.0 a.1.1.0.now (number_back r) e.1.1.0.now)
   tracks_code_contract =
       kept 𝓛 tracks_code.ended _ _ _ refl (λ κs a. (tt, id⊢ 𝓤 _)) (λ κs a g r e. id⊢ 𝓤 _)
-      (λ κs a r s x y p q. let u : _ = code_unique p q in (u.0, λ i. (tt, (tt, (u.1 i, tt)))))
+      (λ κs a r s x y p q. let u : _ = code_result_unique p q in (u.0, λ i. (tt, (tt, (u.1 i, tt)))))
 
   tracks_decode_contract : Contract 𝓛 tracks_decode.ended (tracks_decode.spec 𝓛 mem run) (tracks_decode.clauses 𝓛 mem run)
-      (λ κs a r e. Decodes a.0.now a.1.0.now r e.1.0.now)
+      (λ κs a r e. DecodesTo a.0.now a.1.0.now r e.1.0.now)
   tracks_decode_contract =
       kept 𝓛 tracks_decode.ended _ _ _ refl (λ κs a. (tt, id⊢ 𝓤 _)) (λ κs a g r e. id⊢ 𝓤 _)
-      (λ κs a r s x y p q. let u : _ = decode_unique p q in (u.0, λ i. (tt, (u.1 i, tt))))
+      (λ κs a r s x y p q. let u : _ = decode_result_unique p q in (u.0, λ i. (tt, (u.1 i, tt))))
 
   -- ---- coil
 
   coil_code_contract : Contract 𝓛 coil_code.ended (coil_code.spec 𝓛 mem run) (coil_code.clauses 𝓛 mem run)
-      (λ κs a r e. CodesAnswer a.0.now a.1.0.now r e.1.0.now)
+      (λ κs a r e. CodesAnswer a.0.now a.1.0.now (number_back r) e.1.0.now)
   coil_code_contract =
       kept 𝓛 coil_code.ended _ _ _ refl (λ κs a. (tt, id⊢ 𝓤 _)) (λ κs a g r e. id⊢ 𝓤 _)
-      (λ κs a r s x y p q. let u : _ = coil_code_unique p q in (u.0, λ i. (tt, (u.1 i, tt))))
+      (λ κs a r s x y p q. let u : _ = coil_code_result_unique p q in (u.0, λ i. (tt, (u.1 i, tt))))
 
   coil_decode_contract : Contract 𝓛 coil_decode.ended (coil_decode.spec 𝓛 mem run) (coil_decode.clauses 𝓛 mem run)
-      (λ κs a r e. DecodesAnswer a.0.now a.1.0.now r e.1.0.now)
+      (λ κs a r e. DecodesAnswerTo a.0.now a.1.0.now r e.1.0.now)
   coil_decode_contract =
       kept 𝓛 coil_decode.ended _ _ _ refl (λ κs a. (tt, id⊢ 𝓤 _)) (λ κs a g r e. id⊢ 𝓤 _)
-      (λ κs a r s x y p q. let u : _ = coil_decode_unique p q in (u.0, λ i. (tt, (u.1 i, tt))))
+      (λ κs a r s x y p q. let u : _ = coil_decode_result_unique p q in (u.0, λ i. (tt, (u.1 i, tt))))
 
   -- ---- input
 
   input_wrote_contract : Contract 𝓛 input_wrote.ended (input_wrote.spec 𝓛 mem run) (input_wrote.clauses 𝓛 mem run)
-      (λ κs a r e. r ≡ is_ok a.1.1.0)
-  input_wrote_contract = kept 𝓛 input_wrote.ended _ _ _ refl (λ κs a. (tt, id⊢ 𝓤 _)) (λ κs a g r e. id⊢ 𝓤 _) (λ κs a r s x y p q. (p ∙ sym q, refl))
+      (λ κs a r e. is_ok r ≡ is_ok a.1.1.0)
+  input_wrote_contract =
+      kept 𝓛 input_wrote.ended _ _ _ refl (λ κs a. (tt, id⊢ 𝓤 _)) (λ κs a g r e. id⊢ 𝓤 _) (λ κs a r s x y p q. (wrote_unique _ r s p q, refl))

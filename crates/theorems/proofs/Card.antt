@@ -7,6 +7,7 @@ use prog.Memory.{Memory}
 use prog.Routine.{Routine}
 use types.Logic.{Logic}
 use contract.Monad.{Fun}
+use Rattle.refusals.specs.Number.{number_of}
 use Rattle.card.specs.Frame.{heard_inventory}
 use Rattle.card.specs.Mark.{marked}
 use Rattle.card.specs.Record.{cleared, holding, in_mode, is_accepted, powered_off, with_afi, with_dsfid}
@@ -82,7 +83,7 @@ module _ {M : Type 1} {𝓤 : Ura M} (𝓛 : Logic 𝓤) (mem : Memory → SProp
   record_read_contract = kept 𝓛 record_read.ended _ _ _ refl (λ κs a. (tt, id⊢ 𝓤 _)) (λ κs a g r e. id⊢ 𝓤 _) (λ κs a r s x y p q. (p ∙ sym q, refl))
 
   record_write_contract : Contract 𝓛 record_write.ended (record_write.spec 𝓛 mem run) (record_write.clauses 𝓛 mem run)
-      (λ κs a r e. Writes a.0 a.1.0.now r e.1.0.now)
+      (λ κs a r e. Writes a.0 a.1.0.now (number_of r) e.1.0.now)
   record_write_contract =
       kept 𝓛 record_write.ended _ _ _ refl (λ κs a. (tt, id⊢ 𝓤 _)) (λ κs a g r e. id⊢ 𝓤 _)
       (λ κs a r s x y p q. let u : _ = write_unique _ _ r s _ _ p q in (u.0, λ i. (tt, (u.1 i, tt))))
@@ -97,24 +98,24 @@ module _ {M : Type 1} {𝓤 : Ura M} (𝓛 : Logic 𝓤) (mem : Memory → SProp
 
   play_frame_contract : Contract 𝓛 play_frame.ended (play_frame.spec 𝓛 mem run) (play_frame.clauses 𝓛 mem run)
       (λ κs a r e.
-      Leaves (frame_event a.0 a.1.0.now a.1.1.0.now a.1.1.1.0.now a.1.1.1.1.0.now)
+      Leaves a.0 (frame_event a.0 a.1.0.now a.1.1.0.now a.1.1.1.0.now a.1.1.1.1.0.now)
       r e.1.1.0.now e.1.1.1.0.now e.1.1.1.1.0.now)
   play_frame_contract =
       kept 𝓛 play_frame.ended _ _ _ refl (λ κs a. (tt, id⊢ 𝓤 _)) (λ κs a g r e. id⊢ 𝓤 _)
-      (λ κs a r s x y p q. let u : _ = leaves_unique _ r s _ _ _ _ _ _ p q in (u.0, λ i. (tt, (tt, (u.1 i, (u.2 i, (u.3 i, tt)))))))
+      (λ κs a r s x y p q. let u : _ = leaves_unique _ _ r s _ _ _ _ _ _ p q in (u.0, λ i. (tt, (tt, (u.1 i, (u.2 i, (u.3 i, tt)))))))
 
   play_mark_contract : Contract 𝓛 play_mark.ended (play_mark.spec 𝓛 mem run) (play_mark.clauses 𝓛 mem run)
       (λ κs a r e.
-      Leaves (mark_event a.0 a.1.0.now a.1.1.0.now a.1.1.1.0.now)
+      Leaves a.0 (mark_event a.0 a.1.0.now a.1.1.0.now a.1.1.1.0.now)
       r a.1.0.now a.1.1.0.now e.1.1.1.0.now)
   play_mark_contract =
       kept 𝓛 play_mark.ended _ _ _ refl (λ κs a. (tt, id⊢ 𝓤 _)) (λ κs a g r e. id⊢ 𝓤 _)
-      (λ κs a r s x y p q. let u : _ = leaves_unique _ r s _ _ _ _ _ _ p q in (u.0, λ i. (tt, (tt, (tt, (u.3 i, tt))))))
+      (λ κs a r s x y p q. let u : _ = leaves_unique _ _ r s _ _ _ _ _ _ p q in (u.0, λ i. (tt, (tt, (tt, (u.3 i, tt))))))
 
   play_power_off_contract : Contract 𝓛 play_power_off.ended (play_power_off.spec 𝓛 mem run) (play_power_off.clauses 𝓛 mem run)
       (λ κs a r e.
-      Leaves (off_event a.0 a.1.0.now a.1.1.0.now a.1.1.1.0.now)
+      Leaves a.0 (off_event a.0 a.1.0.now a.1.1.0.now a.1.1.1.0.now)
       r a.1.0.now a.1.1.0.now a.1.1.1.0.now)
   play_power_off_contract =
       kept 𝓛 play_power_off.ended _ _ _ refl (λ κs a. (tt, id⊢ 𝓤 _)) (λ κs a g r e. id⊢ 𝓤 _)
-      (λ κs a r s x y p q. let u : _ = leaves_unique _ r s _ _ _ _ _ _ p q in (u.0, refl))
+      (λ κs a r s x y p q. let u : _ = leaves_unique _ _ r s _ _ _ _ _ _ p q in (u.0, refl))

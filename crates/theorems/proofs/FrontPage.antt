@@ -51,6 +51,8 @@ use Rattle.record.specs.Record.{card_read, write_leaves}
 use Rattle.record.proofs.RoundTrip.{read_of_write}
 use Rattle.commands.specs.Frame.{leaving, decided}
 use Rattle.commands.proofs.Rules.{inventory_frame}
+use Rattle.std.specs.Prelude.{None, Some, Result}
+use Rattle.refusals.specs.declared.Refusal.{Refusal}
 use Rattle.play.specs.declared.Served.{Served}
 use Rattle.play.specs.Refusal.{refusal, Accepted}
 use Rattle.play.specs.Fits.{DeedFits}
@@ -65,8 +67,8 @@ use Rattle.play.proofs.Examples.{card_examples}
 use Rattle.board.specs.Calls.{frame_call, mark_call, off_call}
 use Rattle.board.proofs.ReadBack.{frame_reads_back, mark_reads_back, off_reads_back, frame_leaves_bytes, mark_leaves_bytes, off_leaves_bytes}
 use Rattle.reader.specs.declared.Request.{Request}
-use Rattle.reader.specs.declared.Reading.TheVariants.{Nothing, Error}
-use Rattle.reader.specs.declared.Told.{Told}
+use Rattle.reader.specs.declared.Reading.TheVariants.{Error}
+use Rattle.reader.specs.declared.Reading.{Reading}
 use Rattle.reader.specs.Request.{frame, is_request, data_fits}
 use Rattle.reader.specs.Reading.{block_bytes, lock_bytes, earned, outcome, shown_in, reading, Reads, IsAnswer, shows_data, ErrorShowsNothing}
 use Rattle.reader.specs.Exchange.{Fits as fits_card, Sent, Exchange, Succeeds, Written}
@@ -289,13 +291,13 @@ bytes_after_power_off = off_leaves_bytes
 -- room, shows the code that the rules page gives for the card and its lock bytes before the request, or what card, memory and lock bytes hold after it; and so
 -- for a held answer at the slot mark that releases it. What the request does to the card is said too. All this is `Exchange`, crates/reader/specs/Exchange.antt with Shown.antt beside it.
 an_exchange : (q : Request) (written : List ℕ) (c : Card) (memory locks found : List ℕ) → fits_card c memory locks found q
-    → (r : Served) (memoryLeft locksLeft answer : List ℕ) → Sent q written c memory locks found r memoryLeft locksLeft answer
+    → (r : Result Served Refusal) (memoryLeft locksLeft answer : List ℕ) → Sent q written c memory locks found r memoryLeft locksLeft answer
     → Exchange q written c memory locks r memoryLeft locksLeft answer
 an_exchange = exchange
 
 -- An error answer never shows data, whatever bytes arrive: anything but an error is read from flags 00 alone, and an error shows the byte after flags 01 and leaves
 -- both buffers as they were.
-an_error_shows_nothing : (q : Request) (answer blocks locks : List ℕ) (r : Told) (blocksLeft locksLeft : List ℕ)
+an_error_shows_nothing : (q : Request) (answer blocks locks : List ℕ) (r : Result Reading Refusal) (blocksLeft locksLeft : List ℕ)
     → Reads (reading q answer blocks locks) r blocksLeft locksLeft → ErrorShowsNothing answer blocks locks r blocksLeft locksLeft
 an_error_shows_nothing = error_shows_nothing
 
@@ -316,7 +318,7 @@ only_an_answer_is_read : (q : Request) (answer blocks locks : List ℕ) → is_r
 only_an_answer_is_read = answer_of_read
 
 all_else_is_eleven : (q : Request) (answer blocks locks : List ℕ) → is_request q ≡ true → block_bytes q ≤ length blocks → lock_bytes q ≤ length locks
-    → (IsAnswer q answer → ⊥) → reading q answer blocks locks ≡ outcome 11 Nothing blocks locks
+    → (IsAnswer q answer → ⊥) → reading q answer blocks locks ≡ outcome 11 None blocks locks
 all_else_is_eleven = else_eleven
 
 -- And as what they are read: a success as its part, and an error as its code.
@@ -326,13 +328,13 @@ a_success_is_its_part : (q : Request) → is_request q ≡ true → (blocks lock
 a_success_is_its_part = part_read
 
 an_error_is_its_code : (q : Request) → is_request q ≡ true → (blocks locks : List ℕ) → block_bytes q ≤ length blocks → lock_bytes q ≤ length locks
-    → (code : ℕ) → reading q (sealed (0x01 ∷ code ∷ [])) blocks locks ≡ outcome 0 (Error code) blocks locks
+    → (code : ℕ) → reading q (sealed (0x01 ∷ code ∷ [])) blocks locks ≡ outcome 0 (Some (Error code)) blocks locks
 an_error_is_its_code = code_read
 
 -- What was written comes back: 21, answered with success at once or at a slot mark, then 20 of that block, answered.
 what_was_written : (w : Request) (written : List ℕ) (c : Card) (memory locks found : List ℕ) → fits_card c memory locks found w → w.command ≡ 0x21
-    → (r : Served) (memoryLeft locksLeft answer : List ℕ) → Sent w written c memory locks found r memoryLeft locksLeft answer
-    → (next : Card) (memoryNext locksNext : List ℕ) → Succeeds w r memoryLeft locksLeft answer next memoryNext locksNext
+    → (r : Result Served Refusal) (memoryLeft locksLeft answer : List ℕ) → Sent w written c memory locks found r memoryLeft locksLeft answer
+    → (next : Card) (memoryNext locksNext : List ℕ) → Succeeds w c r memoryLeft locksLeft answer next memoryNext locksNext
     → Written w written memory locks next memoryNext locksNext
 what_was_written = written_then_read
 

@@ -8,6 +8,8 @@ use prog.Memory.{Memory}
 use prog.Routine.{Routine}
 use types.Logic.{Logic}
 use contract.Monad.{Fun}
+use Rattle.refusals.specs.Number.{number_back}
+use Rattle.refusals.proofs.Numbers.{number_back_tells}
 use Rattle.walk.specs.Ask.{Asks, asking}
 use Rattle.walk.specs.Hear.{Hears, hearing}
 use Rattle.walk.specs.Shared.{starting, Starts, shared_hearing, HearsShared}
@@ -58,24 +60,24 @@ module _ {M : Type 1} {𝓤 : Ura M} (𝓛 : Logic 𝓤) (mem : Memory → SProp
       (λ κs a r s x y p q. let u : _ = ask_unique _ _ r s _ _ p q in (u.0, λ i. (tt, (u.1 i, tt))))
 
   walk_hear_contract : Contract 𝓛 walk_hear.ended (walk_hear.spec 𝓛 mem run) (walk_hear.clauses 𝓛 mem run)
-      (λ κs a r e. Hears (hearing a.0 a.1.0 a.1.1.0.now a.1.1.1.0.now) r e.1.1.1.0.now)
+      (λ κs a r e. Hears a.0 (hearing a.0 a.1.0 a.1.1.0.now a.1.1.1.0.now) r e.1.1.1.0.now)
   walk_hear_contract =
       kept 𝓛 walk_hear.ended _ _ _ refl (λ κs a. (tt, id⊢ 𝓤 _)) (λ κs a g r e. id⊢ 𝓤 _)
-      (λ κs a r s x y p q. let u : _ = hear_unique _ r s _ _ p q in (u.0, λ i. (tt, (tt, (tt, (u.1 i, tt))))))
+      (λ κs a r s x y p q. let u : _ = hear_unique _ _ r s _ _ p q in (u.0, λ i. (tt, (tt, (tt, (u.1 i, tt))))))
 
   walk_start_shared_contract : Contract 𝓛 walk_start_shared.ended (walk_start_shared.spec 𝓛 mem run) (walk_start_shared.clauses 𝓛 mem run)
-      (λ κs a r e. Starts (starting a.0 a.1.0 a.1.1.0 a.1.1.1.0.now) r e.1.1.1.0.now)
+      (λ κs a r e. Starts a.0 (starting a.0 a.1.0 a.1.1.0 a.1.1.1.0.now) r e.1.1.1.0.now)
   walk_start_shared_contract =
       kept 𝓛 walk_start_shared.ended _ _ _ refl (λ κs a. (tt, id⊢ 𝓤 _)) (λ κs a g r e. id⊢ 𝓤 _)
-      (λ κs a r s x y p q. let u : _ = start_shared_unique _ r s _ _ p q in (u.0, λ i. (tt, (tt, (tt, (u.1 i, tt))))))
+      (λ κs a r s x y p q. let u : _ = start_shared_unique _ _ r s _ _ p q in (u.0, λ i. (tt, (tt, (tt, (u.1 i, tt))))))
 
   walk_hear_shared_contract : Contract 𝓛 walk_hear_shared.ended (walk_hear_shared.spec 𝓛 mem run) (walk_hear_shared.clauses 𝓛 mem run)
       (λ κs a r e.
-      HearsShared (shared_hearing a.0 a.1.0 a.1.1.0 a.1.1.1.0.now a.1.1.1.1.0.now a.1.1.1.1.1.0.now)
+      HearsShared a.0 (shared_hearing a.0 a.1.0 a.1.1.0 a.1.1.1.0.now a.1.1.1.1.0.now a.1.1.1.1.1.0.now)
       r e.1.1.1.1.0.now e.1.1.1.1.1.0.now)
   walk_hear_shared_contract =
       kept 𝓛 walk_hear_shared.ended _ _ _ refl (λ κs a. (tt, id⊢ 𝓤 _)) (λ κs a g r e. id⊢ 𝓤 _)
-      (λ κs a r s x y p q. let u : _ = hear_shared_unique _ r s _ _ _ _ p q in (u.0, λ i. (tt, (tt, (tt, (tt, (u.1 i, (u.2 i, tt))))))))
+      (λ κs a r s x y p q. let u : _ = hear_shared_unique _ _ r s _ _ _ _ p q in (u.0, λ i. (tt, (tt, (tt, (tt, (u.1 i, (u.2 i, tt))))))))
 
   walk_start_contract : Contract 𝓛 walk_start.ended (walk_start.spec 𝓛 mem run) (walk_start.clauses 𝓛 mem run)
       (λ κs a r e. r ≡ started a.0)
@@ -91,10 +93,10 @@ module _ {M : Type 1} {𝓤 : Ura M} (𝓛 : Logic 𝓤) (mem : Memory → SProp
   -- ---- reader
 
   request_make_contract : Contract 𝓛 request_make.ended (request_make.spec 𝓛 mem run) (request_make.clauses 𝓛 mem run)
-      (λ κs a r e. Makes a.0 a.1.0.now a.1.1.0.now r e.1.1.0.now)
+      (λ κs a r e. Makes a.0 a.1.0.now a.1.1.0.now (number_back r) e.1.1.0.now)
   request_make_contract =
       kept 𝓛 request_make.ended _ _ _ refl (λ κs a. (tt, id⊢ 𝓤 _)) (λ κs a g r e. id⊢ 𝓤 _)
-      (λ κs a r s x y p q. let u : _ = make_unique _ _ _ p q in (u.0, λ i. (tt, (tt, (u.1 i, tt)))))
+      (λ κs a r s x y p q. let u : _ = make_unique _ _ _ p q in (number_back_tells r s u.0, λ i. (tt, (tt, (u.1 i, tt)))))
 
   request_read_contract : Contract 𝓛 request_read.ended (request_read.spec 𝓛 mem run) (request_read.clauses 𝓛 mem run)
       (λ κs a r e.
@@ -144,15 +146,15 @@ module _ {M : Type 1} {𝓤 : Ura M} (𝓛 : Logic 𝓤) (mem : Memory → SProp
   -- ---- report
 
   report_bench_contract : Contract 𝓛 report_bench.ended (report_bench.spec 𝓛 mem run) (report_bench.clauses 𝓛 mem run)
-      (λ κs a r e. Prints a.0.now a.1.0.now r e.1.0.now)
+      (λ κs a r e. Prints a.0.now a.1.0.now (number_back r) e.1.0.now)
   report_bench_contract =
       kept 𝓛 report_bench.ended _ _ _ refl (λ κs a. (tt, id⊢ 𝓤 _)) (λ κs a g r e. id⊢ 𝓤 _)
-      (λ κs a r s x y p q. let u : _ = prints_unique _ _ r s _ _ p q in (u.0, λ i. (tt, (u.1 i, tt))))
+      (λ κs a r s x y p q. let u : _ = prints_unique _ _ (number_back r) (number_back s) _ _ p q in (number_back_tells r s u.0, λ i. (tt, (u.1 i, tt))))
 
   -- ---- picture
 
   picture_picture_contract : Contract 𝓛 picture_picture.ended (picture_picture.spec 𝓛 mem run) (picture_picture.clauses 𝓛 mem run)
-      (λ κs a r e. Pictures a.0.now a.1.0.now r e.1.0.now)
+      (λ κs a r e. Pictures a.0.now a.1.0.now (number_back r) e.1.0.now)
   picture_picture_contract =
       kept 𝓛 picture_picture.ended _ _ _ refl (λ κs a. (tt, id⊢ 𝓤 _)) (λ κs a g r e. id⊢ 𝓤 _)
-      (λ κs a r s x y p q. let u : _ = pictures_unique _ _ r s _ _ p q in (u.0, λ i. (tt, (u.1 i, tt))))
+      (λ κs a r s x y p q. let u : _ = pictures_unique _ _ (number_back r) (number_back s) _ _ p q in (number_back_tells r s u.0, λ i. (tt, (u.1 i, tt))))

@@ -2,15 +2,15 @@
 use mathlib.Core.Path.{◌≡◌, refl, sym, ap, ◌∙◌}
 use mathlib.Core.Bool.{true, ◌&&◌, and-eq-true_iff}
 use Prim.Native.Nat.{ℕ, zero, suc, ◌+◌, ◌-◌, ◌*◌, ◌≤◌, ◌<◌}
-use native.Mathlib.Nat.{mul-zero}
+use native.Mathlib.Nat.{mul-zero, zero-add}
 use native.Mathlib.Numerals.{add-one}
 use native.Mathlib.Omega.{arith}
-use mathlib.Core.List.{List, [], ◌∷◌, ◌++◌}
+use mathlib.Core.List.{List, [], ◌∷◌, ◌++◌, append-nil}
 use borrow.Author.Tests.{ltb-true}
 use lib.Dec.{ltb}
-use lib.ListN.{length, take, drop, set}
-use lib.Seq.{drop-drop}
-use Rattle.lent.specs.Lent.{placed}
+use lib.ListN.{length, take, drop, set, drop_of_length-le}
+use lib.Seq.{drop-drop, length-take-le}
+use Rattle.lent.specs.Lent.{over, placed}
 use Rattle.lent.proofs.Over.{set_placed}
 use Rattle.tracks.specs.Track.{unit}
 use Rattle.tracks.specs.Steps.{byte_of, are_bytes, bytes_of}
@@ -61,3 +61,8 @@ placed_bytes_suc coding i t e h =
     ap (λ (k : ℕ). set (placed 0 s e) k b) place
     ∙ set_placed 0 s e b (rw (← place) h)
     ∙ rw (add-one, bytes_of_suc, drop-drop)
+
+-- over the first n bytes of the buffer is over the buffer
+pub over_part : (n : ℕ) (s e : List ℕ) → length s ≡ n → n ≤ length e → placed 0 s (take n e) ++ drop n e ≡ over s e
+unfolding over placed
+over_part n s e is h = rw (zero-add, is, drop_of_length-le (take n e) {i = n} (rw (length-take-le n e h) (omega arith)), append-nil)

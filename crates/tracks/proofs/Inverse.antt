@@ -8,6 +8,9 @@ use native.Mathlib.Decide.{dec_le, dec_lt}
 use mathlib.Core.List.{List}
 use lib.IntN.{ℤ, pos, nat_abs, pos-ne-negsuc}
 use lib.ListN.{length, take}
+use Rattle.std.specs.Prelude.{Result, Ok, Err, IfOk}
+use Rattle.refusals.specs.declared.Refusal.{Refusal}
+use Rattle.refusals.specs.Number.{number_back}
 use Rattle.lent.specs.Bytes.{Bytes}
 use Rattle.lent.specs.Lent.{over}
 use Rattle.lent.proofs.Over.{take_over}
@@ -16,7 +19,7 @@ use Rattle.tracks.specs.Track.{track_of, track_length}
 use Rattle.tracks.specs.Coder.{Codes}
 use Rattle.tracks.specs.Decoder.{IsTrackOf, told, Decodes, a_frame}
 use Rattle.tracks.specs.Steps.{is_track, is_slot_mark}
-use Rattle.tracks.proofs.Units.{length_track}
+use Rattle.tracks.proofs.Units.{length_track, units_most}
 use Rattle.tracks.proofs.CodeWays.{codes_too_long, codes_no_coding, codes_no_room, codes_served}
 use Rattle.tracks.proofs.DecodeWays.{decodes_no_room, decodes_mark, decodes_frame, decodes_no_track}
 use Rattle.tracks.proofs.Unique.{code_unique, decode_unique}
@@ -44,11 +47,13 @@ module _ {frame : List ℕ} {coding : ℕ} {room : List ℕ} {n : ℕ} {track : 
       go (yes h) = h
       go (no h) = absurd (pos-ne-negsuc n 7 (code_unique code (codes_no_room frame coding room short known (omega arith))).0)
 
+  size : n ≡ track_length coding (length frame)
+  size = ap nat_abs (code_unique code (codes_served frame coding room short known wide)).0
+
   -- its first bytes, as many as it answers, are the track
   track_of_code : take n track ≡ track_of coding frame
   track_of_code =
       let served = code_unique code (codes_served frame coding room short known wide) in
-      let size : n ≡ track_length coding (length frame) = ap nat_abs served.0 in
       rw (served.1, size, ← (length_track coding frame)) (take_over (track_of coding frame) room)
 
   -- decoding what was coded gives the frame and its coding back
@@ -57,6 +62,12 @@ module _ {frame : List ℕ} {coding : ℕ} {room : List ℕ} {n : ℕ} {track : 
   decode_of_code bs most decode =
       let is : IsTrackOf coding frame (track_of coding frame) = record { known = known; bytes = bs; short = short; track = refl } in
       decode_unique (rw track_of_code at decode) (a_frame most coding frame is refl refl)
+
+-- the longest track is that of 64 bytes in 1 of 256
+pub code_most : {frame : List ℕ} {coding : ℕ} {room track : List ℕ} (r : Result ℕ Refusal) → Codes frame coding room (number_back r) track → IfOk r (λ n. n ≤ 4098)
+unfolding number_back longest
+code_most {frame} {coding} (Ok n) code = omega (arith, size code, short code, units_most coding (length frame))
+code_most (Err refusal) code = tt
 
 -- every row of bytes is answered
 pub decode_answers : (t found : List ℕ) → (r : ℤ) × (left : List ℕ) × Decodes t found r left

@@ -1,12 +1,13 @@
 -- The length of a frame by the tests on its track: first on all but the units, then on these. Assumes nothing.
 use mathlib.Core.Path.{◌≡◌}
-use mathlib.Core.Bool.{Bool, true, false, cond, ◌&&◌, and_assoc, and-eq-true_iff}
+use mathlib.Core.Bool.{Bool, true, false, ◌&&◌, and_assoc, and-eq-true_iff}
 use mathlib.Core.List.{List}
-use Prim.Native.Nat.{ℕ, suc, ◌-◌, ◌<◌}
+use Prim.Native.Nat.{ℕ, ◌-◌, ◌<◌}
 use native.Mathlib.Omega.{arith}
 use borrow.Author.Tests.{eqb-true, ne_eqb}
 use lib.Dec.{leb, eqb}
 use lib.ListN.{length, get_or, drop}
+use Rattle.std.specs.Prelude.{Some, None}
 use Rattle.frames.specs.Frame.{longest}
 use Rattle.tracks.specs.Track.{start, end, track_length}
 use Rattle.tracks.specs.Steps.{are_bytes, count_of, is_track, length_as}
@@ -27,14 +28,13 @@ module _ (coding : ℕ) (t : List ℕ) where
   unfolding is_track
   track_by_tests = simp and_assoc
 
-  pub length_unframed : framed coding t ≡ false → length_as coding t ≡ suc longest
+  pub length_by_tests : (framed coding t && are_bytes coding (count_of coding t) (drop 1 t)) ≡ true → Some (count_of coding t) ≡ length_as coding t
   unfolding length_as
-  length_unframed h = rw (track_by_tests, h)
+  length_by_tests h = rw (track_by_tests, h)
 
-  pub length_too_short : length t < 2 → length_as coding t ≡ suc longest
-  length_too_short h = length_unframed (rw (ne_eqb (length t) (track_length coding (count_of coding t)) (λ e. omega arith)))
-
-  pub length_framed : framed coding t ≡ true
-      → length_as coding t ≡ cond (are_bytes coding (count_of coding t) (drop 1 t)) (count_of coding t) (suc longest)
+  pub no_length_by_tests : (framed coding t && are_bytes coding (count_of coding t) (drop 1 t)) ≡ false → None ≡ length_as coding t
   unfolding length_as
-  length_framed h = rw (track_by_tests, h)
+  no_length_by_tests h = rw (track_by_tests, h)
+
+  pub no_length : length t < 2 → None ≡ length_as coding t
+  no_length h = no_length_by_tests (rw (ne_eqb (length t) (track_length coding (count_of coding t)) (λ e. omega arith)))

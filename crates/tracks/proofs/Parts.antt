@@ -1,12 +1,14 @@
 -- What it is to be a track in a coding, part by part, and how the length tells it. Assumes nothing.
-use mathlib.Core.Path.{◌≡◌, refl, ◌∙◌}
+use mathlib.Core.Path.{◌≡◌, refl, sym}
 use mathlib.Core.Bool.{Bool, true, false, cond, ◌&&◌, and-eq-true_iff}
-use Prim.Native.Nat.{ℕ, suc, ◌+◌, ◌-◌, ◌*◌, ◌≤◌, ◌<◌}
+use Prim.Native.Nat.{ℕ, ◌+◌, ◌-◌, ◌*◌, ◌≤◌}
 use native.Mathlib.Omega.{arith}
 use mathlib.Core.List.{List}
 use borrow.Author.Tests.{eqb-true, leb-true, eq-eqb, le-leb}
 use lib.Dec.{eqb, leb}
 use lib.ListN.{length, get_or, drop}
+use Rattle.std.specs.Prelude.{Some, None}
+use Rattle.std.proofs.lemmas.Option.{cond_some}
 use Rattle.frames.specs.Frame.{longest}
 use Rattle.tracks.specs.Track.{start, end, unit, track_length}
 use Rattle.tracks.specs.Steps.{are_bytes, count_of, is_track, length_as}
@@ -53,44 +55,31 @@ module _ (coding : ℕ) (t : List ℕ) where
         p.bytes,
       )
 
-  -- a length within the limit tells a track
-  pub track_of_length : length_as coding t ≤ longest → is_track coding t ≡ true
+  pub no_track_of_length : None ≡ length_as coding t → is_track coding t ≡ false
   unfolding length_as
-  track_of_length h = go (is_track coding t) h
+  no_track_of_length e = go (is_track coding t) e
     where
-      go : (b : Bool) → cond b n (suc longest) ≤ longest → b ≡ true
-      go true k = refl
-      go false k = absurd (omega arith)
+      go : (b : Bool) → None ≡ cond b (Some n) None → b ≡ false
+      go true k = cc
+      go false k = refl
 
-  pub no_track_of_length : longest < length_as coding t → is_track coding t ≡ false
-  unfolding length_as
-  no_track_of_length h = go (is_track coding t) (λ e. (parts_of_track e).short) h
-    where
-      go : (b : Bool) → (b ≡ true → n ≤ longest) → longest < cond b n (suc longest) → b ≡ false
-      go true k l =
-          let m : n ≤ longest = k refl in
-          absurd (omega arith)
-      go false k l = refl
-
-  pub length_of_track : is_track coding t ≡ true → length_as coding t ≡ count_of coding t
-  unfolding length_as
-  length_of_track e = rw e
-
-  -- what a length within the limit says of the units
+  -- what a length says of the units
   pub record Units (k : ℕ) : Type 0 where
     pub track : is_track coding t ≡ true
     pub count : k ≡ count_of coding t
+    pub short : k ≤ longest
     pub within : 1 + unit coding * k ≤ length t
     pub bytes : are_bytes coding k (drop 1 t) ≡ true
 
-  pub units_of_length : (k : ℕ) → k ≡ length_as coding t → k ≤ longest → Units k
-  units_of_length k e h =
-      let is : is_track coding t ≡ true = track_of_length (rw e at h) in
-      let same : k ≡ count_of coding t = e ∙ length_of_track is in
-      let parts : Parts coding t = parts_of_track is in
+  pub units_of_length : (k : ℕ) → Some k ≡ length_as coding t → Units k
+  unfolding length_as
+  units_of_length k e =
+      let both = cond_some (is_track coding t) n k (sym e) in
+      let parts : Parts coding t = parts_of_track both.0 in
       record {
-        track = is;
-        count = same;
-        within = rw (parts.size, same) (omega arith);
-        bytes = rw same parts.bytes;
+        track = both.0;
+        count = sym both.1;
+        short = rw (← both.1) parts.short;
+        within = rw (parts.size, ← both.1) (omega arith);
+        bytes = rw (← both.1) parts.bytes;
       }

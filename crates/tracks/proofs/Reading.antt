@@ -1,15 +1,19 @@
 -- The byte of a unit, by the places of the track that the code reads. Assumes nothing.
 use mathlib.Core.Path.{◌≡◌, sym, ◌∙◌}
-use mathlib.Core.Bool.{cond, ◌&&◌}
+use mathlib.Core.Bool.{true, false, false≢true, cond, ◌&&◌, and_assoc, and-eq-true_iff}
 use Prim.Native.Nat.{ℕ, zero, suc, ◌+◌, ◌-◌, ◌*◌, ◌≤◌, ◌<◌}
 use native.Mathlib.Nat.{add-zero, sub-zero, zero-sub, suc-sub-suc}
 use native.Mathlib.Omega.{arith}
 use mathlib.Core.List.{List, [], ◌∷◌}
-use borrow.Author.Tests.{ne_eqb}
+use borrow.Author.Tests.{ne_eqb, lt-ltb, le-ltb, ltb-true}
+use native.Mathlib.Decide.{dec_lt}
+use Rattle.std.specs.Prelude.{Some, None}
+use Rattle.std.proofs.lemmas.Option.{cond_some}
+use Rattle.std.specs.Option.{is_some}
 use lib.Dec.{eqb, ltb}
 use lib.ListN.{length, get_or, take, drop, length-drop, get_or-eq_default}
 use lib.Seq.{get_or-take, get_or-drop, take-nil, drop-drop, length-take-le}
-use Rattle.tracks.specs.Steps.{pair_of, joined, zeros, lone, byte_of}
+use Rattle.tracks.specs.Steps.{pair_of, joined, zeros, lone, byte_of, byte_or_none}
 
 -- a byte of the m bytes at a place
 get_or_part : (t : List ℕ) (at m k : ℕ) → k < m → get_or (take m (drop at t)) k 0 ≡ get_or t (at + k) 0
@@ -61,3 +65,52 @@ byte_of_4 coding u e = rw e
 pub byte_of_256 : (coding : ℕ) (u : List ℕ) → (coding ≡ 0 → ⊥) → byte_of coding u ≡ lone u
 unfolding byte_of
 byte_of_256 coding u e = rw (ne_eqb coding 0 e)
+
+-- ---- a byte, or none
+
+pub some_byte : (v : ℕ) → v < 256 → byte_or_none v ≡ Some v
+unfolding byte_or_none
+some_byte v h = rw (lt-ltb v 256 h)
+
+pub none_byte : (v : ℕ) → 256 ≤ v → byte_or_none v ≡ None
+unfolding byte_or_none
+none_byte v h = rw (le-ltb v 256 h)
+
+pub is_byte : (v : ℕ) {b : ℕ} → byte_or_none v ≡ Some b → (v < 256) × (v ≡ b)
+unfolding byte_or_none
+is_byte v {b} e =
+    let both = cond_some (ltb v 256) v b e in
+    (ltb-true v 256 both.0, both.1)
+
+pub no_byte : (v : ℕ) → is_some (byte_or_none v) ≡ false → 256 ≤ v
+unfolding byte_or_none
+no_byte v e = go (dec_lt v 256)
+  where
+    go : Dec (v < 256) → 256 ≤ v
+    go (yes h) = absurd (false≢true (sym e ∙ rw (lt-ltb v 256 h)))
+    go (no h) = omega arith
+
+pub some_is_byte : (v : ℕ) → is_some (byte_or_none v) ≡ true → v < 256
+unfolding byte_or_none
+some_is_byte v e = go (dec_lt v 256)
+  where
+    go : Dec (v < 256) → v < 256
+    go (yes h) = h
+    go (no h) = absurd (false≢true (rw (le-ltb v 256 (omega arith)) at e))
+
+-- four pairs below 4
+pub byte_of_pairs : (p q r s : ℕ) → (ltb p 4 && ltb q 4 && ltb r 4 && ltb s 4) ≡ true → Some (p + 4 * q + 16 * r + 64 * s) ≡ byte_or_none (joined p q r s)
+unfolding joined
+byte_of_pairs p q r s h =
+    let three = (and-eq-true_iff _ _).0 h in
+    let two = (and-eq-true_iff _ _).0 three.0 in
+    let one = (and-eq-true_iff _ _).0 two.0 in
+    let a : p < 4 = ltb-true p 4 one.0 in
+    let b : q < 4 = ltb-true q 4 one.1 in
+    let c : r < 4 = ltb-true r 4 two.1 in
+    let d : s < 4 = ltb-true s 4 three.1 in
+    rw (simp and_assoc at h) (sym (some_byte (p + 4 * q + 16 * r + 64 * s) (omega (arith, a, b, c, d))))
+
+pub no_byte_of_pairs : (p q r s : ℕ) → (ltb p 4 && ltb q 4 && ltb r 4 && ltb s 4) ≡ false → None ≡ byte_or_none (joined p q r s)
+unfolding joined byte_or_none
+no_byte_of_pairs p q r s h = rw (simp and_assoc at h)

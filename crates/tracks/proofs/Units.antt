@@ -8,25 +8,20 @@ use native.Mathlib.Omega.{arith}
 use mathlib.Core.List.{List, [], ◌∷◌, ◌++◌, append_assoc, append-nil}
 use borrow.Author.Tests.{eq-eqb, ne_eqb}
 use lib.Dec.{eqb}
-use lib.Seq.{length-take-le, take-suc}
-use lib.ListN.{length, get_or, take, set, replicate, length-append, length-set, length-replicate, replicate-append-replicate}
+use lib.Seq.{length-take-le, take-suc, drop-drop}
+use lib.ListN.{length, get_or, take, drop, set, replicate, length-append, length-set}
 use Rattle.lent.specs.Lent.{placed}
-use Rattle.lent.proofs.Over.{set_placed, set_in_placed, placed_placed}
+use Rattle.lent.proofs.Over.{set_in_placed, placed_placed}
 use Rattle.tracks.specs.Track.{pattern, quad, blank, long, coded, unit, pulses, track_of, track_length}
-
--- one 00 more
-pub placed_zero_suc : (at i : ℕ) (e : List ℕ) → at + i < length e
-    → set (placed at (replicate i 0) e) (at + i) 0 ≡ placed at (replicate (i + 1) 0) e
-placed_zero_suc at i e h =
-    let s : List ℕ = replicate i 0 in
-    let place : at + length s ≡ at + i = ap (λ (n : ℕ). at + n) (length-replicate i 0) in
-    ap (λ (k : ℕ). set (placed at s e) k 0) (sym place)
-    ∙ set_placed at s e 0 (rw place h)
-    ∙ ap (λ (l : List ℕ). placed at l e) (replicate-append-replicate i 1 0)
 
 pub length_blank : length blank ≡ 64
 unfolding blank
 length_blank = refl
+
+-- a blank unit in the place of as many bytes
+pub placed_blank : (at k : ℕ) (v e : List ℕ) → k ≡ 64 → v ≡ replicate 64 0 → take at e ++ (v ++ drop k (drop at e)) ≡ placed at blank e
+unfolding blank placed
+placed_blank at k v e many zeros = rw (zeros, many, drop-drop 64 at e) (sym (append_assoc (take at e) (replicate 64 0) (drop (at + 64) e)))
 
 -- the one byte that is not 00
 pub placed_long : (at v : ℕ) (e : List ℕ) → v < 256 → at + 64 ≤ length e

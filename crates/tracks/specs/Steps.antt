@@ -1,6 +1,6 @@
 -- Steps of the decoder's private functions, for their promises alone: not to be held against the rules page. What `decode` promises is said in
 -- Decoder.antt without them.
-use Rattle.std.specs.Prelude.{ℕ, zero, suc, ◌+◌, ◌-◌, ◌*◌, ◌/◌, Bool, true, cond, ◌&&◌, List, [], ◌∷◌, leb, ltb, eqb, length, get_or, take, drop}
+use Rattle.std.specs.Prelude.{ℕ, zero, suc, ◌+◌, ◌-◌, ◌*◌, ◌/◌, Bool, true, cond, ◌&&◌, List, [], ◌∷◌, leb, ltb, eqb, length, get_or, take, drop, Option, Some, None}
 use Rattle.frames.specs.Frame.{longest}
 use Rattle.tracks.specs.Track.{start, end, unit, track_length}
 
@@ -33,6 +33,10 @@ byte_of coding u =
     (joined (pair_of (get_or u 0 0)) (pair_of (get_or u 1 0)) (pair_of (get_or u 2 0)) (pair_of (get_or u 3 0)))
     (lone u)
 
+-- the byte, where there is one
+unfoldable pub byte_or_none : ℕ → Option ℕ
+byte_or_none v = cond (ltb v 256) (Some v) None
+
 -- ---- the bytes of n units
 
 unfoldable pub are_bytes : ℕ → ℕ → List ℕ → Bool
@@ -55,9 +59,9 @@ is_track coding t =
     && (eqb (get_or t 0 0) (start coding)
     && (leb (count_of coding t) longest && (eqb (get_or t (length t - 1) 0) end && are_bytes coding (count_of coding t) (drop 1 t))))
 
--- the frame's length, or one more than the longest where the bytes are no track in this coding
-unfoldable pub length_as : ℕ → List ℕ → ℕ
-length_as coding t = cond (is_track coding t) (count_of coding t) (suc longest)
+-- the frame's length, where the bytes are a track in this coding
+unfoldable pub length_as : ℕ → List ℕ → Option ℕ
+length_as coding t = cond (is_track coding t) (Some (count_of coding t)) None
 
 unfoldable pub is_slot_mark : List ℕ → Bool
 is_slot_mark t = eqb (length t) 1 && eqb (get_or t 0 0) end

@@ -1,11 +1,13 @@
 // From a frame to its track.
 ghost use Rattle.std.specs.Prelude.{◌≡◌, ◌+◌, ◌*◌, ◌≤◌, length};
 ghost use Rattle.lent.specs.Lent.{placed, over};
+ghost use Rattle.refusals.specs.Number.{number_back};
 ghost use Rattle.tracks.specs.Coder.{Codes};
 ghost use Rattle.tracks.specs.Track.{blank, quad, long, coded, pulses, unit, track_of, track_length};
 
 use crate::pulse::{END, pattern_of, start_of, unit_of};
 use frames::LONGEST;
+use refusals::Refusal;
 
 // 1 of 4: a byte as its four pairs, the lowest first.
 fn put_quad(track: &mut [u8], at: usize, v: u8)
@@ -27,11 +29,7 @@ fn clear(track: &mut [u8], at: usize)
     requires { at + 64 ≤ length track.old }
     ensures { track.new ≡ placed at blank track.old }
 {
-    let mut i = 0;
-    while i < 64 {
-        track[at + i] = 0;
-        i += 1;
-    }
+    track[at..at + 64].fill(0);
 }
 
 // 1 of 256: a byte as 64, of which one is not 00.
@@ -40,7 +38,7 @@ fn put_long(track: &mut [u8], at: usize, v: u8)
     ensures { track.new ≡ placed at (long v) track.old }
 {
     clear(track, at);
-    let place = (v >> 2) as usize;
+    let place = usize::from(v >> 2);
     track[at + place] = pattern_of(v);
 }
 
@@ -61,12 +59,8 @@ fn put_all(frame: &[u8], coding: u32, track: &mut [u8])
     ensures { track.new ≡ placed 1 (pulses coding frame.now) track.old }
 {
     let width = unit_of(coding);
-    let mut at = 1;
-    let mut i = 0;
-    while i < frame.len() {
-        put(track, coding, at, frame[i]);
-        at += width;
-        i += 1;
+    for (i, &v) in frame.iter().enumerate() {
+        put(track, coding, 1 + width * i, v);
     }
 }
 
@@ -80,20 +74,17 @@ fn put_track(frame: &[u8], coding: u32, track: &mut [u8], n: usize)
     track[n - 1] = END;
 }
 
-// The frame's track at the start of the room that is lent. Returns the track's length, or minus the number of the refusal.
-pub fn code(frame: &[u8], coding: u32, track: &mut [u8]) -> i64
-    ensures { Codes frame.now coding track.old result track.new }
+// The frame's track at the start of the room that is lent. Returns the track's length.
+pub fn code(frame: &[u8], coding: u32, track: &mut [u8]) -> Result<usize, Refusal>
+    ensures { Codes frame.now coding track.old (number_back result) track.new }
 {
-    if LONGEST < frame.len() {
-        return -7;
-    }
-    if 1 < coding {
-        return -7;
+    if LONGEST < frame.len() || 1 < coding {
+        return Err(Refusal::Unfit);
     }
     let n = 2 + unit_of(coding) * frame.len();
     if track.len() < n {
-        return -8;
+        return Err(Refusal::Room);
     }
     put_track(frame, coding, track, n);
-    n as i64
+    Ok(n)
 }

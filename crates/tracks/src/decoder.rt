@@ -1,32 +1,37 @@
 // From a track to its frame. The whole track is looked at before the first byte is written.
-ghost use Rattle.std.specs.Prelude.{◌≡◌, true, ℕ, ◌+◌, ◌-◌, ◌*◌, ◌≤◌, ◌<◌, length, get_or, take, drop};
+ghost use Rattle.std.specs.Prelude.{◌≡◌, true, ℕ, ◌+◌, ◌-◌, ◌*◌, ◌≤◌, ◌<◌, length, get_or, take, drop, IfOk};
 ghost use Rattle.lent.specs.Lent.{over};
 ghost use Rattle.tracks.specs.Track.{unit};
-ghost use Rattle.tracks.specs.Steps.{joined, zeros, lone, byte_of, are_bytes, bytes_of, length_as, is_slot_mark};
-ghost use Rattle.tracks.specs.Decoder.{Decodes};
+ghost use Rattle.tracks.specs.Steps.{joined, zeros, lone, byte_of, byte_or_none, are_bytes, bytes_of, length_as, is_slot_mark};
+ghost use Rattle.tracks.specs.Decoded.{DecodesTo};
 
-use crate::pulse::{END, NONE, pair_of, start_of, unit_of};
+use crate::pulse::{END, pair_of, start_of, unit_of};
 use frames::LONGEST;
+use refusals::Refusal;
 
-// What a track that is none in a coding has for its length.
-const NO_FRAME: usize = LONGEST + 1;
+// What a track stands for: a frame, of which its coding and length are told, or a slot mark.
+#[derive(Clone, Copy, Debug, PartialEq, Eq)]
+pub enum Decoded {
+    Frame { coding: u32, length: usize },
+    SlotMark,
+}
 
 // Four pairs joined, the lowest first.
-fn join(a: u8, b: u8, c: u8, d: u8) -> u16
-    ensures { result ≡ joined a b c d }
+fn join(a: u8, b: u8, c: u8, d: u8) -> Option<u8>
+    ensures { result ≡ byte_or_none (joined a b c d) }
 {
     if (a < 4) & (b < 4) & (c < 4) & (d < 4) {
-        (a as u16) + 4 * (b as u16) + 16 * (c as u16) + 64 * (d as u16)
+        Some(a + 4 * b + 16 * c + 64 * d)
     } else {
-        NONE
+        None
     }
 }
 
 // 1 of 4: the byte of four track bytes. The last is read first: else the compiler shares the read of the first with 1 of 256 and has
 // to put the four together again.
-fn quad_at(track: &[u8], at: usize) -> u16
+fn quad_at(track: &[u8], at: usize) -> Option<u8>
     requires { at + 4 ≤ length track.now }
-    ensures { result ≡ byte_of 0 (take 4 (drop at track.now)) }
+    ensures { result ≡ byte_or_none (byte_of 0 (take 4 (drop at track.now))) }
 {
     let d = pair_of(track[at + 3]);
     let c = pair_of(track[at + 2]);
@@ -41,15 +46,14 @@ fn eight_blank(track: &[u8], at: usize) -> bool
     ensures { result ≡ true → (k : ℕ) → k < 8 → get_or track.now (at + k) 0 ≡ 0 }
 {
     let mut all = 0;
-    let mut k = 0;
-    while k < 8 {
-        all |= track[at + k];
-        k += 1;
+    for &b in &track[at..at + 8] {
+        all |= b;
     }
     all == 0
 }
 
-// Of the bytes 00 that the n bytes at a place begin with, how many are passed eight at a time.
+// Of the bytes 00 that the n bytes at a place begin with, how many are passed eight at a time. An index: over 0..n / 8 the compiler reads the
+// first byte past them once more, and 1 of 256 took 3 to 5 % longer.
 fn blanks_at(track: &[u8], at: usize, n: usize) -> usize
     requires { at + n ≤ length track.now }
     ensures within { result ≤ n }
@@ -70,38 +74,36 @@ fn zeros_at(track: &[u8], at: usize, n: usize) -> usize
     requires { at + n ≤ length track.now }
     ensures { result ≡ zeros (take n (drop at track.now)) }
 {
-    let mut i = blanks_at(track, at, n);
-    while i < n {
+    for i in blanks_at(track, at, n)..n {
         if track[at + i] != 0 {
             return i;
         }
-        i += 1;
     }
-    i
+    n
 }
 
 // 1 of 256: the byte of 64 track bytes, of which one is not 00.
-fn lone_at(track: &[u8], at: usize) -> u16
+fn lone_at(track: &[u8], at: usize) -> Option<u8>
     requires { at + 64 ≤ length track.now }
-    ensures { result ≡ lone (take 64 (drop at track.now)) }
+    ensures { result ≡ byte_or_none (lone (take 64 (drop at track.now))) }
 {
     let place = zeros_at(track, at, 64);
     if 64 <= place {
-        return NONE;
+        return None;
     }
     let pair = pair_of(track[at + place]);
     let rest = 63 - place;
     if (pair < 4) & (zeros_at(track, at + place + 1, rest) == rest) {
-        (4 * place) as u16 + (pair as u16)
+        Some((4 * place) as u8 + pair)
     } else {
-        NONE
+        None
     }
 }
 
-// The byte of the unit at a place, or NONE.
-fn byte_at(track: &[u8], coding: u32, at: usize) -> u16
+// The byte of the unit at a place.
+fn byte_at(track: &[u8], coding: u32, at: usize) -> Option<u8>
     requires { at + unit coding ≤ length track.now }
-    ensures { result ≡ byte_of coding (take (unit coding) (drop at track.now)) }
+    ensures { result ≡ byte_or_none (byte_of coding (take (unit coding) (drop at track.now))) }
 {
     if coding == 0 {
         quad_at(track, at)
@@ -116,14 +118,10 @@ fn all_bytes(track: &[u8], coding: u32, n: usize) -> bool
     ensures { result ≡ are_bytes coding n (drop 1 track.now) }
 {
     let width = unit_of(coding);
-    let mut at = 1;
-    let mut i = 0;
-    while i < n {
-        if NONE <= byte_at(track, coding, at) {
+    for i in 0..n {
+        if byte_at(track, coding, 1 + width * i).is_none() {
             return false;
         }
-        at += width;
-        i += 1;
     }
     true
 }
@@ -136,22 +134,18 @@ fn put_bytes(track: &[u8], coding: u32, n: usize, frame: &mut [u8])
     ensures { frame.new ≡ over (bytes_of coding n (drop 1 track.now)) frame.old }
 {
     let width = unit_of(coding);
-    let mut at = 1;
-    let mut i = 0;
-    while i < n {
-        frame[i] = byte_at(track, coding, at) as u8;
-        at += width;
-        i += 1;
+    for (i, byte) in frame[..n].iter_mut().enumerate() {
+        *byte = byte_at(track, coding, 1 + width * i).unwrap();
     }
 }
 
-// The length of the frame whose track this is in a coding, or one more than the longest where it is none.
-fn length_as(track: &[u8], coding: u32) -> usize
+// The length of the frame whose track this is in a coding.
+fn length_as(track: &[u8], coding: u32) -> Option<usize>
     ensures { result ≡ length_as coding track.now }
 {
     let n = track.len();
     if n < 2 {
-        return NO_FRAME;
+        return None;
     }
     let width = unit_of(coding);
     let count = (n - 2) / width;
@@ -159,45 +153,36 @@ fn length_as(track: &[u8], coding: u32) -> usize
         & (frames::byte_at(track, 0) == start_of(coding))
         & (count <= LONGEST)
         & (frames::byte_at(track, n - 1) == END);
-    if !framed {
-        return NO_FRAME;
-    }
-    if all_bytes(track, coding, count) {
-        count
+    if framed && all_bytes(track, coding, count) {
+        Some(count)
     } else {
-        NO_FRAME
+        None
     }
 }
 
 fn is_slot_mark(track: &[u8]) -> bool
     ensures { result ≡ is_slot_mark track.now }
 {
-    if track.len() != 1 {
-        return false;
-    }
-    track[0] == END
+    track.len() == 1 && track[0] == END
 }
 
-// The frame of a track at the start of the room that is lent. Returns 65,536 times the kind, which is the coding or 2 for a slot
-// mark, and the frame's length; or minus the number of the refusal.
-pub fn decode(track: &[u8], frame: &mut [u8]) -> i64
-    ensures { Decodes track.now frame.old result frame.new }
+// The frame of a track at the start of the room that is lent.
+pub fn decode(track: &[u8], frame: &mut [u8]) -> Result<Decoded, Refusal>
+    ensures { DecodesTo track.now frame.old result frame.new }
 {
     if frame.len() < LONGEST {
-        return -8;
+        return Err(Refusal::Room);
     }
     if is_slot_mark(track) {
-        return 131072;
+        return Ok(Decoded::SlotMark);
     }
-    let short = length_as(track, 0);
-    if short <= LONGEST {
-        put_bytes(track, 0, short, frame);
-        return short as i64;
+    if let Some(length) = length_as(track, 0) {
+        put_bytes(track, 0, length, frame);
+        return Ok(Decoded::Frame { coding: 0, length });
     }
-    let long = length_as(track, 1);
-    if long <= LONGEST {
-        put_bytes(track, 1, long, frame);
-        return (65536 + long) as i64;
+    if let Some(length) = length_as(track, 1) {
+        put_bytes(track, 1, length, frame);
+        return Ok(Decoded::Frame { coding: 1, length });
     }
-    -9
+    Err(Refusal::NoTrack)
 }

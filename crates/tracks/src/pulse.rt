@@ -4,8 +4,6 @@ ghost use Rattle.tracks.specs.Track.{start, unit, pattern};
 ghost use Rattle.tracks.specs.Steps.{pair_of};
 
 pub(crate) const END: u8 = 0x20;
-// What a unit that stands for no byte reads as.
-pub(crate) const NONE: u16 = 256;
 
 pub(crate) fn start_of(coding: u32) -> u8
     ensures { result ≡ start coding }
@@ -30,6 +28,7 @@ pub(crate) fn pattern_of(v: u8) -> u8
 }
 
 // The pair whose pattern is b, or 4 for none: a pause at bit 0 or 2 makes its high bit 1, one at bit 0 or 4 its low bit.
+// A number: the definition has 4 for none too, and four pairs are joined by one test.
 pub(crate) fn pair_of(b: u8) -> u8
     ensures { result ≡ pair_of b }
 {

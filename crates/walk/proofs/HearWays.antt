@@ -2,18 +2,25 @@
 use mathlib.Core.Path.{◌≡◌, refl, sym, ap, ◌∙◌}
 use mathlib.Core.Bool.{Bool, true, false, cond}
 use mathlib.Core.List.{List}
-use Prim.Native.Nat.{ℕ, suc, ◌+◌, ◌-◌, ◌≤◌, ◌<◌}
+use Prim.Native.Nat.{ℕ, ◌+◌, ◌≤◌, ◌<◌}
 use native.Mathlib.Omega.{arith}
-use borrow.Author.Tests.{lt-ltb, le-ltb, ltb-true, ltb-false, leb-true, le-leb, ne_eqb}
+use borrow.Author.Tests.{ltb-true, ltb-false, leb-true, le-leb, ne_eqb}
 use lib.Dec.{leb, ltb, eqb}
 use lib.ListN.{length, length-set}
+use Rattle.std.specs.Prelude.{Option, Some, None, IfSome, is_some, unwrap_or, Ok, Err}
+use Rattle.std.specs.Bool.{then_some}
+use Rattle.refusals.specs.declared.Refusal.{Refusal}
+use Rattle.refusals.specs.Number.{number, number_of}
+use Rattle.refusals.proofs.Numbers.{number_is_some}
 use Rattle.walk.specs.declared.Walk.{Walk}
 use Rattle.walk.specs.declared.Kind.{Kind}
 use Rattle.walk.specs.declared.Slot.{Slot}
 use Rattle.walk.specs.declared.Slot.TheVariants.{Silent, Clashed, Clean}
-use Rattle.walk.specs.Record.{places, levels_of, most_rounds, is_running, is_accepted, ended, opened}
-use Rattle.walk.specs.Hear.{judged, has_place, ends_at_once, noted, list_noted, turned, passed, walk_after, list_after, refusal, hearing, Hears}
-use Rattle.walk.specs.Steps.{After}
+use Rattle.walk.specs.Record.{places, levels_of, is_running, is_accepted, ended}
+use Rattle.walk.specs.Hear.{judged, has_place, ends_at_once, noted, list_noted, passed, walk_after, list_after, refusal, hearing, walk_of, Hears}
+use Rattle.walk.specs.declared.Ending.{Ending}
+use Rattle.walk.specs.declared.Ending.TheVariants.{Complete, Twins, Full, Overrun}
+use Rattle.walk.specs.Steps.{number as ending_number, After}
 
 -- ---- a slot that ends nothing at once
 
@@ -47,37 +54,57 @@ pub place_none : (w : Walk) → has_place w ≡ false → 64 ≤ w.count
 unfolding has_place places
 place_none w e = ltb-false w.count 64 e
 
--- ---- after slot 15
-
-pub turned_complete : (w : Walk) (n : ℕ) → n ≡ 0 → turned w n ≡ ended 1 w
-unfolding turned
-turned_complete w n e = rw e
-
-pub turned_opened : (w : Walk) (n : ℕ) → (n ≡ 0 → ⊥) → w.rounds < most_rounds (length w.marks) → turned w n ≡ opened w (n - 1)
-unfolding turned levels_of
-turned_opened w n h k =
-    let one : n ≡ suc (n - 1) = omega arith in
-    ap (λ (m : ℕ). turned w m) one ∙ rw (lt-ltb w.rounds (most_rounds (length w.marks)) k)
-
-pub turned_overrun : (w : Walk) (n : ℕ) → (n ≡ 0 → ⊥) → most_rounds (length w.marks) ≤ w.rounds → turned w n ≡ ended 4 w
-unfolding turned levels_of
-turned_overrun w n h k =
-    let one : n ≡ suc (n - 1) = omega arith in
-    ap (λ (m : ℕ). turned w m) one ∙ rw (le-ltb w.rounds (most_rounds (length w.marks)) k)
-
 -- ---- what a slot leaves behind
 
-pub after_ending : (w : Walk) (slot : Slot) (place : Bool) (at : ℕ) (list : List ℕ) (n : ℕ) (r : Walk) → n ≡ ends_at_once w slot place → (n ≡ 0 → ⊥)
-    → r ≡ ended n w → After (walk_after w slot place) (list_after w slot place at list) r list
-unfolding walk_after list_after
-after_ending w slot place at list n r is h e =
-    let other : eqb (ends_at_once w slot place) 0 ≡ false = rw (← is) (ne_eqb n 0 h) in
-    record { walk_left = rw (other, ← is) e; list_left = rw other }
+ending_is_some : (e : Ending) → ending_number e ≡ 0 → ⊥
+unfolding ending_number
+ending_is_some Complete is = omega arith
+ending_is_some Twins is = omega arith
+ending_is_some Full is = omega arith
+ending_is_some Overrun is = omega arith
 
-pub after_passing : (w : Walk) (slot : Slot) (place : Bool) (at : ℕ) (list : List ℕ) (r : Walk) (left : List ℕ) → ends_at_once w slot place ≡ 0
-    → r ≡ passed (noted w slot) → left ≡ list_noted slot at list → After (walk_after w slot place) (list_after w slot place at list) r left
-unfolding walk_after list_after
-after_passing w slot place at list r left is e f = record { walk_left = rw is e; list_left = rw is f }
+-- an ending at once, or the slot noted
+pub after_ending : (w : Walk) (slot : Slot) (place : Bool) (e : Ending) (r : Walk) → ending_number e ≡ ends_at_once w slot place → r ≡ ended (ending_number e) w
+    → r ≡ walk_after w slot place
+unfolding walk_after
+after_ending w slot place e r is ends =
+    let other : eqb (ends_at_once w slot place) 0 ≡ false = rw (← is) (ne_eqb (ending_number e) 0 (ending_is_some e)) in
+    rw (other, ← is) ends
+
+pub after_passing : (w : Walk) (slot : Slot) (place : Bool) (r : Walk) → 0 ≡ ends_at_once w slot place → r ≡ passed (noted w slot) → r ≡ walk_after w slot place
+unfolding walk_after
+after_passing w slot place r is e = rw (← is) e
+
+-- a place for a clean UID
+pub place_few : (place : Option ℕ) (count n : ℕ) → IfSome place (λ at. (count < 64) × (at < n)) → is_some place ≡ true → count < 64
+place_few (Some at) count n within is = within.0
+place_few None count n within is = cc
+
+-- the walk's own list
+pub own_within : (w : Walk) (place : Option ℕ) (n : ℕ) → 64 ≤ n → place ≡ then_some (ltb w.count 64) w.count → IfSome place (λ at. (w.count < 64) × (at < n))
+own_within w place n room is = rw is (go (ltb w.count 64) refl)
+  where
+    go : (b : Bool) → ltb w.count 64 ≡ b → IfSome (then_some b w.count) (λ at. (w.count < 64) × (at < n))
+    go true few = let below : w.count < 64 = ltb-true w.count 64 few in (below, omega arith)
+    go false many = tt
+
+-- where there is none, no place is looked at
+unplaced : (w : Walk) (slot : Slot) (list : List ℕ) → list_after w slot false 0 list ≡ list_after w slot false w.count list
+unfolding list_after list_noted ends_at_once
+unplaced w Silent list = refl
+unplaced w Clashed list = refl
+unplaced w (Clean uid) list = refl
+
+pub after_own : (w : Walk) (slot : Slot) (place : Option ℕ) (list : List ℕ) (r : Walk) (left : List ℕ) → place ≡ then_some (ltb w.count 64) w.count
+    → After (walk_after w slot (is_some place)) (list_after w slot (is_some place) (unwrap_or place 0) list) r left
+    → After (walk_after w slot (has_place w)) (list_after w slot (has_place w) w.count list) r left
+unfolding has_place places
+after_own w slot place list r left is after = go (ltb w.count 64) (rw is at after)
+  where
+    go : (b : Bool) → After (walk_after w slot (is_some (then_some b w.count))) (list_after w slot (is_some (then_some b w.count)) (unwrap_or (then_some b w.count) 0) list) r left
+        → After (walk_after w slot b) (list_after w slot b w.count list) r left
+    go true after = after
+    go false after = record { walk_left = after.walk_left; list_left = after.list_left ∙ unplaced w slot list }
 
 -- a list keeps its places
 places_noted : (slot : Slot) (at : ℕ) (list : List ℕ) → length (list_noted slot at list) ≡ length list
@@ -102,9 +129,9 @@ pub record Served (w : Walk) (room : ℕ) : Type 0 where
   pub runs : is_running w ≡ true
   pub list : 64 ≤ room
 
-pub served_of_refusal : (w : Walk) (room n : ℕ) → n ≡ refusal w room → n ≡ 0 → Served w room
+pub served_of_refusal : (w : Walk) (room : ℕ) → refusal w room ≡ 0 → Served w room
 unfolding refusal places
-served_of_refusal w room n is e = go (is_accepted w) (is_running w) (leb 64 room) refl refl refl (sym is ∙ e)
+served_of_refusal w room e = go (is_accepted w) (is_running w) (leb 64 room) refl refl refl e
   where
     go : (a b c : Bool) → is_accepted w ≡ a → is_running w ≡ b → leb 64 room ≡ c → ◌≡◌ {A = ℕ} (cond a (cond b (cond c 0 5) 6) 10) 0
         → Served w room
@@ -113,19 +140,19 @@ served_of_refusal w room n is e = go (is_accepted w) (is_running w) (leb 64 room
     go true false c p q u e = absurd (omega arith)
     go false b c p q u e = absurd (omega arith)
 
-pub hears_refused : (w : Walk) (kind : Kind) (bytes list : List ℕ) (n : ℕ) → n ≡ refusal w (length list) → (n ≡ 0 → ⊥)
-    → Hears (hearing w kind bytes list) (record { walk = w; number = n }) list
-unfolding hearing
-hears_refused w kind bytes list n is h =
-    let other : eqb (refusal w (length list)) 0 ≡ false = rw (← is) (ne_eqb n 0 h) in
+pub hears_refused : (w : Walk) (kind : Kind) (bytes list : List ℕ) (e : Refusal) → number e ≡ refusal w (length list)
+    → Hears w (hearing w kind bytes list) (Err e) list
+unfolding hearing number_of walk_of
+hears_refused w kind bytes list e is =
+    let other : eqb (refusal w (length list)) 0 ≡ false = rw (← is) (ne_eqb (number e) 0 (number_is_some e)) in
     record { walk = rw other; number = rw (other, ← is); list_left = rw other }
 
-pub hears_served : (w : Walk) (kind : Kind) (bytes list : List ℕ) (n : ℕ) (slot : Slot) (r : Walk) (left : List ℕ) → n ≡ refusal w (length list)
-    → n ≡ 0 → slot ≡ judged w kind bytes → After (walk_after w slot (has_place w)) (list_after w slot (has_place w) w.count list) r left
-    → Hears (hearing w kind bytes list) (record { walk = r; number = 0 }) left
-unfolding hearing
-hears_served w kind bytes list n slot r left is e heard after =
-    let served : refusal w (length list) ≡ 0 = sym is ∙ e in
+pub hears_served : (w : Walk) (kind : Kind) (bytes list : List ℕ) (slot : Slot) (r : Walk) (left : List ℕ) → 0 ≡ refusal w (length list)
+    → slot ≡ judged w kind bytes → After (walk_after w slot (has_place w)) (list_after w slot (has_place w) w.count list) r left
+    → Hears w (hearing w kind bytes list) (Ok r) left
+unfolding hearing number_of walk_of
+hears_served w kind bytes list slot r left is heard after =
+    let served : refusal w (length list) ≡ 0 = sym is in
     record { walk = rw (served, ← heard) after.walk_left; number = rw served; list_left = rw (served, ← heard) after.list_left }
 
 -- ---- what hearing comes to

@@ -3,16 +3,18 @@
 use mathlib.Core.Path.{◌≡◌, refl, sym, ap, ◌∙◌}
 use mathlib.Core.Bool.{Bool, true, false, cond}
 use mathlib.Core.List.{List}
-use Prim.Native.Nat.{ℕ, zero, suc, ◌+◌, ◌-◌, ◌*◌, ◌/◌, ◌%◌, ◌^◌, ◌≤◌, ◌<◌}
+use Prim.Native.Nat.{min, ℕ, zero, suc, ◌+◌, ◌-◌, ◌*◌, ◌/◌, ◌%◌, ◌^◌, ◌≤◌, ◌<◌}
 use native.Mathlib.Nat.{pow-suc, div-div-eq-div-mul, div-eq_of_lt, mod-lt, mul-le-mul_right, add-mul}
 use native.Mathlib.Decide.{dec_lt}
 use native.Mathlib.Omega.{arith}
-use borrow.Author.Tests.{eqb-true, eqb-false, eq-eqb, ne_eqb}
+use borrow.Author.Tests.{eqb-true, eqb-false, eq-eqb, ltb-true, ltb-false}
 use lib.Count.{under, count_trailing_zeros}
-use lib.Dec.{eqb}
+use lib.Dec.{ltb, eqb}
 use lib.ListN.{length, get_or, set, length-set}
 use lib.Pow.{pow_pos, pow-add, shl_exact, shr_lt, split}
 use lib.Seq.{get_or-set_other}
+use Rattle.std.specs.Prelude.{Option, Some, None}
+use Rattle.walk.specs.Steps.{levels_to, IsDeepest}
 use Rattle.walk.specs.Marks.{waits, lowest_from, lowest, deepest_of, deepest}
 use Rattle.walk.specs.Record.{no_marks}
 
@@ -107,26 +109,44 @@ lowest_zeros m =
     let whole : m / 2 ^ 0 ≡ m = omega arith in
     lowest_from_zeros m 0 15 ∙ rw whole (omega arith)
 
-pub lowest_short : (m z : ℕ) → z ≡ count_trailing_zeros 16 m → z < 15 → z ≡ lowest m
-lowest_short m z is h = is ∙ sym (zeros_short 15 m (omega arith)) ∙ sym (lowest_zeros m)
-
-pub lowest_long : (m z : ℕ) → z ≡ count_trailing_zeros 16 m → 15 ≤ z → 15 ≡ lowest m
-lowest_long m z is h = sym (zeros_long 15 m (omega arith)) ∙ sym (lowest_zeros m)
+-- the zeros below it, or 15
+pub lowest_least : (m : ℕ) → min (count_trailing_zeros 16 m) 15 ≡ lowest m
+lowest_least m = go (ltb (count_trailing_zeros 16 m) 15) refl
+  where
+    go : (b : Bool) → ltb (count_trailing_zeros 16 m) 15 ≡ b → min (count_trailing_zeros 16 m) 15 ≡ lowest m
+    go true is =
+        let few : count_trailing_zeros 16 m < 15 = ltb-true _ 15 is in
+        omega (arith, few, zeros_short 15 m few, lowest_zeros m)
+    go false is =
+        let many : 15 ≤ count_trailing_zeros 16 m = ltb-false _ 15 is in
+        omega (arith, many, zeros_long 15 m many, lowest_zeros m)
 
 -- ---- the deepest level
 
--- it is this level, or else among those before it
-pub deepest_here : (marks : List ℕ) (n : ℕ) → 0 < n → (get_or marks (n - 1) 0 ≡ 0 → ⊥) → deepest_of marks n ≡ n - 1 + 1
+-- a level with a mark, where none above has one
+deepest_at : (marks : List ℕ) (n j : ℕ) → j < n → (get_or marks j 0 ≡ 0 → ⊥) → ((k : ℕ) → j < k → k < n → get_or marks k 0 ≡ 0) → deepest_of marks n ≡ j + 1
 unfolding deepest_of
-deepest_here marks n h e =
-    let one : n ≡ suc (n - 1) = omega arith in
-    ap (λ (k : ℕ). deepest_of marks k) one ∙ rw (ne_eqb (get_or marks (n - 1) 0) 0 e) (omega arith)
+deepest_at marks zero j h has above = absurd (omega arith)
+deepest_at marks (suc n) j h has above =
+    go (eqb (get_or marks n 0) 0) refl (λ below. deepest_at marks n j below has (λ k low high. above k low (omega arith)))
+  where
+    go : (b : Bool) → eqb (get_or marks n 0) 0 ≡ b → (j < n → deepest_of marks n ≡ j + 1) → cond b (deepest_of marks n) (suc n) ≡ j + 1
+    go true is rest =
+        let other : j ≡ n → ⊥ = λ same. has (ap (λ (k : ℕ). get_or marks k 0) same ∙ eqb-true (get_or marks n 0) 0 is) in
+        rest (omega arith)
+    go false is rest =
+        let last : j < n → ⊥ = λ below. eqb-false (get_or marks n 0) 0 is (above n below (omega arith)) in
+        omega arith
 
-pub deepest_before : (marks : List ℕ) (n : ℕ) → 0 < n → get_or marks (n - 1) 0 ≡ 0 → deepest_of marks n ≡ deepest_of marks (n - 1)
+none_deep : (marks : List ℕ) (n : ℕ) → ((k : ℕ) → k < n → get_or marks k 0 ≡ 0) → deepest_of marks n ≡ 0
 unfolding deepest_of
-deepest_before marks n h e =
-    let one : n ≡ suc (n - 1) = omega arith in
-    ap (λ (k : ℕ). deepest_of marks k) one ∙ rw (eq-eqb (get_or marks (n - 1) 0) 0 e)
+none_deep marks zero none = refl
+none_deep marks (suc n) none = rw (eq-eqb (get_or marks n 0) 0 (none n (omega arith))) (none_deep marks n (λ k h. none k (omega arith)))
+
+pub deepest_told : (marks : List ℕ) (r : Option ℕ) → IsDeepest marks r → levels_to r ≡ deepest marks
+unfolding levels_to deepest
+deepest_told marks (Some j) is = sym (deepest_at marks (length marks) j is.0 is.1 is.2)
+deepest_told marks None none = sym (none_deep marks (length marks) none)
 
 pub deepest_of_most : (marks : List ℕ) (n : ℕ) → deepest_of marks n ≤ n
 unfolding deepest_of

@@ -50,6 +50,10 @@ accepted_of_is_accepted w e =
       last_level = ltb-true (deepest w.marks) (length w.marks) t7.1;
     }
 
+-- a mask's length is a byte
+pub level_few : (w : Walk) → length w.marks ≡ 14 → is_accepted w ≡ true → w.level < 16
+level_few w long h = omega (arith, long, (accepted_of_is_accepted w h).level)
+
 -- the tests on slot, count and rounds, and all of them after the level's
 abbrev pub numbers_fit : Walk → Bool
 numbers_fit w = leb w.slot 15 && leb w.count 64 && leb 1 w.rounds && leb w.rounds (most_rounds (length w.marks))

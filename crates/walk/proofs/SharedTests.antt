@@ -1,24 +1,28 @@
 -- The tests of the code on a shared list are those of the definitions: the numbers of rows tell the marks and the shares, and the lowest free row
 -- whether there is one. Assumes nothing.
-use mathlib.Core.Path.{◌≡◌, ap, ◌∙◌}
-use mathlib.Core.Bool.{Bool, true, false, cond, ◌&&◌, and_assoc, and-eq-true_iff}
+use mathlib.Core.Path.{◌≡◌, refl, sym, ap, ◌∙◌}
+use mathlib.Core.Bool.{Bool, true, false, cond, ◌&&◌, and_assoc}
 use mathlib.Core.List.{List}
 use Prim.Native.Nat.{ℕ, zero, suc, ◌+◌, ◌≤◌, ◌<◌}
 use native.Mathlib.Omega.{arith}
-use borrow.Author.Tests.{ltb-true, le-leb, lt-leb}
+use borrow.Author.Tests.{le-leb, lt-leb}
 use lib.Dec.{leb, ltb, eqb}
 use lib.ListN.{length}
 use Rattle.walk.specs.declared.Walk.{Walk}
 use Rattle.walk.specs.declared.shared.Shares.{Shares}
-use Rattle.walk.specs.Record.{places}
-use Rattle.walk.specs.Shared.{rows_with, lowest_free, owners_fit, most_rows, shares_fit, has_row}
+use Rattle.refusals.specs.declared.Refusal.{Refusal}
+use Rattle.refusals.specs.Number.{number}
+use Rattle.refusals.proofs.Numbers.{number_is_some}
+use Rattle.walk.specs.Record.{places, is_accepted, is_running}
+use Rattle.walk.specs.Hear.{refusal}
+use Rattle.walk.specs.Shared.{rows_with, lowest_free, is_rack, owners_fit, list_fits, most_rows, shares_fit, hear_refusal, has_row}
 use Rattle.walk.specs.Steps.{shares_of, counts_fit}
 use Rattle.walk.proofs.Owners.{rows_with_most, rows_with_sum, lowest_free_below}
 
 -- numbers of rows add up
-pub shares_most : (owners : List ℕ) (s : Shares) → 64 ≤ length owners → s ≡ shares_of owners → s.free + s.first + s.second ≤ 64
+pub shares_most : (marks : List ℕ) (s : Shares) → length marks ≡ 64 → s ≡ shares_of marks → s.free + s.first + s.second ≤ 64
 unfolding shares_of
-shares_most owners s h is = rw is (rows_with_most owners h)
+shares_most marks s long is = rw is (rows_with_most marks (omega arith))
 
 -- number 5's test of the marks
 pub owners_few : (owners : List ℕ) → length owners < 64 → owners_fit owners ≡ false
@@ -53,8 +57,34 @@ pub row_told : (w : Walk) (rack at : ℕ) (owners : List ℕ) → 64 ≤ length 
 unfolding has_row most_rows
 row_told w rack at owners h counts is = rw (counts, is, ← lowest_free_below owners h)
 
-pub row_below : (count at : ℕ) → (ltb count 40 && ltb at 64) ≡ true → (count < 64) × (at < 64)
-row_below count at e =
-    let both = (and-eq-true_iff (ltb count 40) (ltb at 64)).0 e in
-    let few = ltb-true count 40 both.0 in
-    (omega arith, ltb-true at 64 both.1)
+-- what a list of the walk's own would be refused for, a shared one is too
+pub list_refused : (w : Walk) (rack rows : ℕ) (owners : List ℕ) (e : Refusal) → rack ≤ 1 → number e ≡ refusal w rows → hear_refusal w rack rows owners ≡ number e
+unfolding hear_refusal refusal is_rack list_fits
+list_refused w rack rows owners e few is = rw (le-leb rack 1 few) (go (is_accepted w) (is_running w) (leb places rows) is)
+  where
+    go : (a b c : Bool) → number e ≡ cond a (cond b (cond c 0 5) 6) 10
+        → cond a (cond b (cond (c && owners_fit owners) (cond (shares_fit w rack owners) 0 10) 5) 6) 10 ≡ number e
+    go true true true is = absurd (number_is_some e is)
+    go true true false is = sym is
+    go true false c is = sym is
+    go false b c is = sym is
+
+-- else its marks and its shares say
+abbrev pub shared_refusal : Walk → ℕ → List ℕ → ℕ
+shared_refusal w rack owners = cond (owners_fit owners) (cond (shares_fit w rack owners) 0 10) 5
+
+pub list_served : (w : Walk) (rack rows : ℕ) (owners : List ℕ) → rack ≤ 1 → 0 ≡ refusal w rows
+    → hear_refusal w rack rows owners ≡ shared_refusal w rack owners
+unfolding hear_refusal refusal is_rack list_fits
+list_served w rack rows owners few is = rw (le-leb rack 1 few) (go (is_accepted w) (is_running w) (leb places rows) is)
+  where
+    go : (a b c : Bool) → ◌≡◌ {A = ℕ} 0 (cond a (cond b (cond c 0 5) 6) 10)
+        → cond a (cond b (cond (c && owners_fit owners) (cond (shares_fit w rack owners) 0 10) 5) 6) 10 ≡ shared_refusal w rack owners
+    go true true true is = refl
+    go true true false is = absurd (omega arith)
+    go true false c is = absurd (omega arith)
+    go false b c is = absurd (omega arith)
+
+pub rack_refused : (w : Walk) (rack rows : ℕ) (owners : List ℕ) → 1 < rack → hear_refusal w rack rows owners ≡ 13
+unfolding hear_refusal is_rack
+rack_refused w rack rows owners h = rw (lt-leb _ _ h)

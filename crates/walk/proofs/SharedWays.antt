@@ -4,47 +4,65 @@ use mathlib.Core.Bool.{Bool, true, false, cond, ◌&&◌, and-eq-true_iff}
 use mathlib.Core.List.{List}
 use Prim.Native.Nat.{ℕ, ◌≤◌, ◌<◌}
 use native.Mathlib.Omega.{arith}
-use borrow.Author.Tests.{ltb-true, leb-true, le-leb, eq-eqb, ne_eqb, eqb-true}
+use borrow.Author.Tests.{ltb-true, lt-ltb, le-ltb, leb-true, le-leb, eq-eqb, ne_eqb, eqb-true}
 use lib.Dec.{leb, ltb, eqb}
 use lib.ListN.{length}
+use Rattle.std.specs.Prelude.{Option, Some, None, IfSome, is_some, unwrap_or, Ok, Err}
+use Rattle.refusals.specs.declared.Refusal.{Refusal}
+use Rattle.refusals.specs.Number.{number, number_of}
+use Rattle.refusals.proofs.Numbers.{number_is_some}
 use Rattle.walk.specs.declared.Walk.{Walk}
 use Rattle.walk.specs.declared.Kind.{Kind}
 use Rattle.walk.specs.declared.Slot.{Slot}
 use Rattle.walk.specs.declared.Slot.TheVariants.{Silent, Clashed, Clean}
 use Rattle.walk.specs.Record.{places, is_running, is_accepted, started}
-use Rattle.walk.specs.Hear.{judged, ends_at_once, list_noted, walk_after, list_after}
+use Rattle.walk.specs.Hear.{judged, ends_at_once, list_noted, walk_after, list_after, walk_of}
 use Rattle.walk.specs.Shared.{rows_with, lowest_free, is_rack, owners_fit, list_fits, most_rows, shares_fit, start_refusal, hear_refusal}
 use Rattle.walk.specs.Shared.{freed, starting, Starts, has_row, owners_after, shared_hearing, HearsShared}
-use Rattle.walk.specs.Steps.{After, row_for, AfterRow}
+use Rattle.walk.specs.Steps.{After, IsLowestFree, IsRowFor, owned, AfterRow}
 use Rattle.walk.proofs.SharedTests.{row_told}
 
 -- ---- what a slot leaves behind
 
-pub after_row : (w : Walk) (rack : ℕ) (slot : Slot) (rows owners : List ℕ) (at : ℕ) (r : Walk) (rows' owners' : List ℕ) → 64 ≤ length owners
-    → w.count ≡ rows_with rack owners → at ≡ row_for slot owners
-    → After (walk_after w slot (ltb w.count 40 && ltb at 64)) (list_after w slot (ltb w.count 40 && ltb at 64) at rows) r rows'
-    → owners' ≡ owners_after slot (ltb w.count 40 && ltb at 64) at rack owners → AfterRow w rack slot rows owners r rows' owners'
-unfolding row_for walk_after list_after list_noted ends_at_once owners_after
-after_row w rack Silent rows owners at r rows' owners' h counts is after owned =
-    record { walk_left = after.walk_left; rows_left = after.list_left; owners_left = owned }
-after_row w rack Clashed rows owners at r rows' owners' h counts is after owned =
-    record { walk_left = after.walk_left; rows_left = after.list_left; owners_left = owned }
-after_row w rack (Clean u) rows owners at r rows' owners' h counts is after owned =
-    let told : (ltb w.count 40 && ltb at 64) ≡ has_row rack owners = row_told w rack at owners h counts is in
-    record {
-      walk_left = rw (← told) after.walk_left;
-      rows_left = rw (← told, ← is) after.list_left;
-      owners_left = rw (← told, ← is) owned;
-    }
+pub after_row : (w : Walk) (rack : ℕ) (slot : Slot) (rows owners : List ℕ) (place : Option ℕ) (r : Walk) (rows' owners' : List ℕ) → 64 ≤ length owners
+    → w.count ≡ rows_with rack owners → IsRowFor w slot place owners
+    → After (walk_after w slot (is_some place)) (list_after w slot (is_some place) (unwrap_or place 0) rows) r rows' → owners' ≡ owned place rack owners
+    → AfterRow w rack slot rows owners r rows' owners'
+unfolding IsRowFor walk_after list_after list_noted ends_at_once owners_after owned
+after_row w rack Silent rows owners place r rows' owners' h counts is after left =
+    record { walk_left = after.walk_left; rows_left = after.list_left; owners_left = rw is at left }
+after_row w rack Clashed rows owners place r rows' owners' h counts is after left =
+    record { walk_left = after.walk_left; rows_left = after.list_left; owners_left = rw is at left }
+after_row w rack (Clean u) rows owners (Some at) r rows' owners' h counts is after left =
+    let has : has_row rack owners ≡ true = sym (row_told w rack at owners h counts is.0) ∙ rw (lt-ltb w.count 40 is.2, lt-ltb at 64 is.1) in
+    record { walk_left = rw has after.walk_left; rows_left = rw (has, ← is.0) after.list_left; owners_left = rw (has, ← is.0) left }
+after_row w rack (Clean u) rows owners None r rows' owners' h counts is after left =
+    let has : has_row rack owners ≡ false = sym (row_told w rack (lowest_free owners) owners h counts refl) ∙ is in
+    record { walk_left = rw has after.walk_left; rows_left = rw has after.list_left; owners_left = rw has left }
 
--- a slot that ends the walk at once leaves the marks
-pub ending_owners : (w : Walk) (slot : Slot) (place : Bool) (at rack : ℕ) (owners : List ℕ) {n : ℕ} → n ≡ ends_at_once w slot place → (n ≡ 0 → ⊥)
-    → owners ≡ owners_after slot place at rack owners
-unfolding ends_at_once owners_after
-ending_owners w Silent place at rack owners is h = refl
-ending_owners w Clashed place at rack owners is h = refl
-ending_owners w (Clean u) true at rack owners is h = absurd (h is)
-ending_owners w (Clean u) false at rack owners is h = refl
+-- the row for a clean UID
+pub row_found : (w : Walk) (slot : Slot) {uid : ℕ} (r : Option ℕ) (owners : List ℕ) → slot ≡ Clean uid → w.count < 40 → IsLowestFree r owners → IsRowFor w slot r owners
+unfolding IsRowFor IsLowestFree
+row_found w slot {uid} (Some at) owners told few is = rw told (is.0, is.1, few)
+row_found w slot {uid} None owners told few is = rw (told, is) (rw (lt-ltb w.count 40 few))
+
+pub row_full : (w : Walk) (slot : Slot) (owners : List ℕ) → 40 ≤ w.count → IsRowFor w slot None owners
+unfolding IsRowFor
+row_full w Silent owners many = refl
+row_full w Clashed owners many = refl
+row_full w (Clean uid) owners many = rw (le-ltb w.count 40 many)
+
+-- it is one of the list's
+pub row_within : (w : Walk) (slot : Slot) (place : Option ℕ) (owners : List ℕ) (n : ℕ) → 64 ≤ n → IsRowFor w slot place owners → IfSome place (λ at. (w.count < 64) × (at < n))
+unfolding IsRowFor
+row_within w Silent place owners n room is = rw is tt
+row_within w Clashed place owners n room is = rw is tt
+row_within w (Clean uid) (Some at) owners n room is = (omega (arith, is.2), omega (arith, is.1))
+row_within w (Clean uid) None owners n room is = tt
+
+pub row_in_bounds : (w : Walk) (slot : Slot) (place : Option ℕ) (owners : List ℕ) → 64 ≤ length owners → IsRowFor w slot place owners → IfSome place (λ at. at < length owners)
+row_in_bounds w slot (Some at) owners room is = (row_within w slot (Some at) owners (length owners) room is).1
+row_in_bounds w slot None owners room is = tt
 
 -- ---- starting
 
@@ -77,15 +95,17 @@ unfolding starting
 start_refused w rack family owners h = rw (ne_eqb (start_refusal rack owners) 0 h)
 
 -- what the call promises, either way
-pub starts_served : (w : Walk) (rack family : ℕ) (owners : List ℕ) (n : ℕ) (r : Walk) (left : List ℕ) → n ≡ start_refusal rack owners → n ≡ 0
-    → r ≡ started family → left ≡ freed rack owners → Starts (starting w rack family owners) (record { walk = r; number = 0 }) left
-starts_served w rack family owners n r left is e begun owned =
-    rw (shared_started w rack family owners (start_served_of rack owners (sym is ∙ e))) (record { walk = begun; number = refl; owners_left = owned })
+pub starts_served : (w : Walk) (rack family : ℕ) (owners : List ℕ) (r : Walk) (left : List ℕ) → 0 ≡ start_refusal rack owners
+    → r ≡ started family → left ≡ freed rack owners → Starts w (starting w rack family owners) (Ok r) left
+unfolding number_of walk_of
+starts_served w rack family owners r left is begun owned =
+    rw (shared_started w rack family owners (start_served_of rack owners (sym is))) (record { walk = begun; number = refl; owners_left = owned })
 
-pub starts_refused : (w : Walk) (rack family : ℕ) (owners : List ℕ) (n : ℕ) → n ≡ start_refusal rack owners → (n ≡ 0 → ⊥)
-    → Starts (starting w rack family owners) (record { walk = w; number = n }) owners
-starts_refused w rack family owners n is h =
-    rw (start_refused w rack family owners (λ e. h (is ∙ e))) (record { walk = refl; number = is; owners_left = refl })
+pub starts_refused : (w : Walk) (rack family : ℕ) (owners : List ℕ) (e : Refusal) → number e ≡ start_refusal rack owners
+    → Starts w (starting w rack family owners) (Err e) owners
+unfolding number_of walk_of
+starts_refused w rack family owners e is =
+    rw (start_refused w rack family owners (λ none. number_is_some e (is ∙ none))) (record { walk = refl; number = is; owners_left = refl })
 
 -- ---- hearing
 
@@ -168,15 +188,17 @@ unfolding shared_hearing
 shared_refused w rack kind bytes rows owners h = rw (ne_eqb (hear_refusal w rack (length rows) owners) 0 h)
 
 -- what the call promises, either way
-pub hears_shared_served : (w : Walk) (rack : ℕ) (kind : Kind) (bytes rows owners : List ℕ) (n : ℕ) (slot : Slot) (r : Walk) (rows' owners' : List ℕ)
-    → n ≡ hear_refusal w rack (length rows) owners → n ≡ 0 → slot ≡ judged w kind bytes → AfterRow w rack slot rows owners r rows' owners'
-    → HearsShared (shared_hearing w rack kind bytes rows owners) (record { walk = r; number = 0 }) rows' owners'
-hears_shared_served w rack kind bytes rows owners n slot r rows' owners' is e heard after =
-    rw (shared_heard w rack kind bytes rows owners (shared_served_of w rack (length rows) owners (sym is ∙ e)), ← heard)
+pub hears_shared_served : (w : Walk) (rack : ℕ) (kind : Kind) (bytes rows owners : List ℕ) (slot : Slot) (r : Walk) (rows' owners' : List ℕ)
+    → 0 ≡ hear_refusal w rack (length rows) owners → slot ≡ judged w kind bytes → AfterRow w rack slot rows owners r rows' owners'
+    → HearsShared w (shared_hearing w rack kind bytes rows owners) (Ok r) rows' owners'
+unfolding number_of walk_of
+hears_shared_served w rack kind bytes rows owners slot r rows' owners' is heard after =
+    rw (shared_heard w rack kind bytes rows owners (shared_served_of w rack (length rows) owners (sym is)), ← heard)
     (record { walk = after.walk_left; number = refl; rows_left = after.rows_left; owners_left = after.owners_left })
 
-pub hears_shared_refused : (w : Walk) (rack : ℕ) (kind : Kind) (bytes rows owners : List ℕ) (n : ℕ) → n ≡ hear_refusal w rack (length rows) owners
-    → (n ≡ 0 → ⊥) → HearsShared (shared_hearing w rack kind bytes rows owners) (record { walk = w; number = n }) rows owners
-hears_shared_refused w rack kind bytes rows owners n is h =
-    rw (shared_refused w rack kind bytes rows owners (λ e. h (is ∙ e)))
+pub hears_shared_refused : (w : Walk) (rack : ℕ) (kind : Kind) (bytes rows owners : List ℕ) (e : Refusal) → number e ≡ hear_refusal w rack (length rows) owners
+    → HearsShared w (shared_hearing w rack kind bytes rows owners) (Err e) rows owners
+unfolding number_of walk_of
+hears_shared_refused w rack kind bytes rows owners e is =
+    rw (shared_refused w rack kind bytes rows owners (λ none. number_is_some e (is ∙ none)))
     (record { walk = refl; number = is; rows_left = refl; owners_left = refl })

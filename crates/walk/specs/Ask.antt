@@ -1,6 +1,8 @@
 -- 01, The walk: what to send.
-use Rattle.std.specs.Prelude.{ℕ, cond, List, [], ◌∷◌, ◌++◌, ◌≡◌, leb, eqb, length}
+use Rattle.std.specs.Prelude.{Result, Ok, Err, ℕ, cond, List, [], ◌∷◌, ◌++◌, ◌≡◌, leb, eqb, length}
 use Rattle.lent.specs.Lent.{over}
+use Rattle.refusals.specs.declared.Refusal.{Refusal}
+use Rattle.refusals.specs.Number.{number_of}
 use Rattle.crc.specs.Check.{sealed}
 use Rattle.frames.specs.Field.{field_bytes}
 use Rattle.slots.specs.Fits.{mask_bytes}
@@ -53,9 +55,18 @@ asking w room =
     let n : ℕ = refusal w (length room) in
     cond (eqb n 0) (record { room = room_after w (sent w) room; number = 0; send = sent w }) (record { room = room; number = n; send = Nothing })
 
+-- what a call leaves: the walk that it hands back, or the one that the caller has where it is refused; and what to send, nothing where it is refused
+unfoldable pub walk_asked : Walk → Result Asked Refusal → Walk
+walk_asked w (Ok asked) = asked.walk
+walk_asked w (Err refusal) = w
+
+unfoldable pub send_of : Result Asked Refusal → Send
+send_of (Ok asked) = asked.send
+send_of (Err refusal) = Nothing
+
 -- "may be asked often": what `ask` promises is the walk as it was, what is returned, and every byte of the room
-pub record Asks (w : Walk) (a : Asking) (r : Asked) (room : List ℕ) : Type 0 where
-  pub walk : r.walk ≡ w
-  pub number : r.number ≡ a.number
-  pub send : r.send ≡ a.send
+pub record Asks (w : Walk) (a : Asking) (r : Result Asked Refusal) (room : List ℕ) : Type 0 where
+  pub walk : walk_asked w r ≡ w
+  pub number : number_of r ≡ a.number
+  pub send : send_of r ≡ a.send
   pub room_left : room ≡ a.room

@@ -1,14 +1,15 @@
 -- 01, The walk: what a slot makes of the walk and of its list.
-use Rattle.std.specs.Prelude.{ℕ, zero, suc, ◌+◌, ◌/◌, ◌^◌, Bool, cond, ◌&&◌, List, ◌≡◌, leb, ltb, eqb, length, get_or, set}
+use Rattle.std.specs.Prelude.{Result, Ok, Err, ℕ, zero, suc, ◌+◌, ◌/◌, ◌^◌, Bool, cond, ◌&&◌, List, ◌≡◌, leb, ltb, eqb, length, get_or, set}
 use Rattle.crc.specs.Check.{is_sealed}
 use Rattle.frames.specs.Field.{field_at}
 use Rattle.slots.specs.Fits.{fits_slot}
+use Rattle.refusals.specs.declared.Refusal.{Refusal}
+use Rattle.refusals.specs.Number.{number_of}
 use Rattle.walk.specs.declared.Walk.{Walk}
 use Rattle.walk.specs.declared.Kind.{Kind}
 use Rattle.walk.specs.declared.Kind.TheVariants.{Silence, Clash, Bytes}
 use Rattle.walk.specs.declared.Slot.{Slot}
 use Rattle.walk.specs.declared.Slot.TheVariants.{Silent, Clashed, Clean}
-use Rattle.walk.specs.declared.Heard.{Heard}
 use Rattle.walk.specs.Marks.{deepest}
 use Rattle.walk.specs.Record.{places, most_rounds, levels_of, mask_length, whole_mask, running, complete, twins, full, overrun, is_running, is_accepted, ended, counted, marked, at_next_slot, opened}
 
@@ -101,8 +102,13 @@ hearing w kind bytes list =
     })
     (record { walk = w; list = list; number = n })
 
+-- the walk that a call leaves: the next one, or the one that the caller has where it is refused
+unfoldable pub walk_of : Walk → Result Walk Refusal → Walk
+walk_of w (Ok next) = next
+walk_of w (Err refusal) = w
+
 -- what `hear` promises: what is returned, and every place of the list
-pub record Hears (h : Hearing) (r : Heard) (list : List ℕ) : Type 0 where
-  pub walk : r.walk ≡ h.walk
-  pub number : r.number ≡ h.number
+pub record Hears (w : Walk) (h : Hearing) (r : Result Walk Refusal) (list : List ℕ) : Type 0 where
+  pub walk : walk_of w r ≡ h.walk
+  pub number : number_of r ≡ h.number
   pub list_left : list ≡ h.list

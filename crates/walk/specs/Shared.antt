@@ -1,14 +1,15 @@
 -- 02, W5: "The big arm has a rack on each side and one list of 64 rows for both walks." Beside each row stands its owner mark.
-use Rattle.std.specs.Prelude.{ℕ, suc, Bool, true, cond, ◌&&◌, ◌||◌, List, [], ◌∷◌, ◌≡◌, leb, ltb, eqb, length, take, set}
+use Rattle.std.specs.Prelude.{Result, ℕ, suc, Bool, true, cond, ◌&&◌, ◌||◌, List, [], ◌∷◌, ◌≡◌, leb, ltb, eqb, length, take, set}
 use Rattle.lent.specs.Lent.{over}
+use Rattle.refusals.specs.declared.Refusal.{Refusal}
+use Rattle.refusals.specs.Number.{number_of}
 use Rattle.tails.specs.Sum.{times}
 use Rattle.walk.specs.declared.Walk.{Walk}
 use Rattle.walk.specs.declared.Kind.{Kind}
 use Rattle.walk.specs.declared.Slot.{Slot}
 use Rattle.walk.specs.declared.Slot.TheVariants.{Silent, Clashed, Clean}
-use Rattle.walk.specs.declared.Heard.{Heard}
 use Rattle.walk.specs.Record.{places, is_running, is_accepted, started}
-use Rattle.walk.specs.Hear.{judged, walk_after, list_after}
+use Rattle.walk.specs.Hear.{judged, walk_after, list_after, walk_of}
 
 -- ---- whose a row is
 
@@ -103,9 +104,9 @@ starting w rack family owners =
     cond (eqb n 0) (record { walk = started family; owners = freed rack owners; number = 0 }) (record { walk = w; owners = owners; number = n })
 
 -- what `start_shared` promises: what is returned, and every mark
-pub record Starts (s : Starting) (r : Heard) (owners : List ℕ) : Type 0 where
-  pub walk : r.walk ≡ s.walk
-  pub number : r.number ≡ s.number
+pub record Starts (w : Walk) (s : Starting) (r : Result Walk Refusal) (owners : List ℕ) : Type 0 where
+  pub walk : walk_of w r ≡ s.walk
+  pub number : number_of r ≡ s.number
   pub owners_left : owners ≡ s.owners
 
 -- ---- hearing
@@ -142,8 +143,8 @@ shared_hearing w rack kind bytes rows owners =
     (record { walk = w; rows = rows; owners = owners; number = n })
 
 -- what `hear_shared` promises: what is returned, every row and every mark
-pub record HearsShared (h : SharedHearing) (r : Heard) (rows owners : List ℕ) : Type 0 where
-  pub walk : r.walk ≡ h.walk
-  pub number : r.number ≡ h.number
+pub record HearsShared (w : Walk) (h : SharedHearing) (r : Result Walk Refusal) (rows owners : List ℕ) : Type 0 where
+  pub walk : walk_of w r ≡ h.walk
+  pub number : number_of r ≡ h.number
   pub rows_left : rows ≡ h.rows
   pub owners_left : owners ≡ h.owners

@@ -1,10 +1,13 @@
 // What to send: a round's request, a slot mark, or nothing.
 ghost use Rattle.std.specs.Prelude.{◌≡◌, ◌<◌, ◌≤◌, ltb, length};
 ghost use Rattle.lent.specs.Puts.{Puts};
+ghost use Rattle.refusals.specs.Number.{number_of};
 ghost use Rattle.walk.specs.Ask.{request_head, request_body, request, sent, room_asked, room_after, refusal, asking, Asks};
 
-use crate::{Asked, Send, Walk};
+use crate::{AcceptedWalk, Asked, Send, Walk};
+use refusals::Refusal;
 
+#[tactic(auto, using(std::proofs::lemmas::Bool::Decides::nat_tests))]
 fn has_family(family: u16) -> bool
     ensures { result ≡ ltb family 256 }
 {
@@ -26,96 +29,92 @@ fn put_head(walk: Walk, room: &mut [u8]) -> usize
     2
 }
 
-// The head, the mask's length and the mask. Returns the place after them.
-fn put_body(walk: Walk, room: &mut [u8]) -> usize
-    requires level_bound { walk.level < 16 }
-    requires in_bounds { 14 ≤ length room.old }
-    ensures { Puts (request_body walk) room.old result room.new }
-{
-    let at = put_head(walk, room);
-    let n = 4 * walk.level;
-    let bytes = slots::mask_bytes(n);
-    room[at] = n;
-    frames::put_field(room, at + 1, bytes, walk.mask());
-    at + 1 + bytes
-}
-
-// How long the round's request is.
-fn request_length(walk: Walk) -> usize
-    requires { walk.level < 16 }
-    ensures { result ≡ length (request walk) }
-{
-    let bytes = slots::mask_bytes(4 * walk.level);
-    if has_family(walk.family) {
-        bytes + 6
-    } else {
-        bytes + 5
-    }
-}
-
-fn send(walk: Walk) -> Send
-    requires { walk.level < 16 }
-    ensures { result ≡ sent walk }
-{
-    if walk.ending != 0 {
-        return Send::Nothing;
-    }
-    if walk.slot == 0 {
-        return Send::Request(request_length(walk));
-    }
-    Send::Mark
-}
-
-fn refusal(walk: Walk, room: usize) -> u8
-    ensures { result ≡ refusal walk room }
+#[tactic(auto, using(std::proofs::lemmas::Bool::Decides::nat_tests), unfolding(crate::specs::Ask::refusal, crate::specs::Ask::sent, crate::specs::Ask::room_asked, crate::specs::Record::is_running, refusals::specs::Number::number, refusals::specs::Number::number_of))]
+fn refusal(walk: Walk, room: usize) -> Result<(), Refusal>
+    ensures { number_of result ≡ refusal walk room }
 {
     if !walk.is_accepted() {
-        return 10;
+        return Err(Refusal::WalkRecord);
     }
+    // Test by test and not by `&&`: a slot mark is told sooner so.
     if walk.ending != 0 {
-        return 0;
+        return Ok(());
     }
     if walk.slot != 0 {
-        return 0;
+        return Ok(());
     }
-    if room < 14 { 8 } else { 0 }
+    if room < 14 {
+        return Err(Refusal::Room);
+    }
+    Ok(())
 }
 
-// Puts the request into the room, if one is to be sent.
-fn fill(walk: Walk, send: Send, room: &mut [u8])
-    requires level_bound { walk.level < 16 }
-    requires send_in_bounds { room_asked send ≤ length room.old }
-    ensures { room.new ≡ room_after walk send room.old }
-{
-    match send {
-        Send::Nothing => {}
-        Send::Mark => {}
-        Send::Request(_) => {
-            let n = put_body(walk, room);
-            frames::seal(room, n);
+impl AcceptedWalk {
+    // The head, the mask's length and the mask, for which there is room. Returns the place after them.
+    #[tactic(auto, using(crate::proofs::Limits::level_few))]
+    fn put_body(self, room: &mut [u8]) -> usize
+        requires { 14 ≤ length room.old }
+        ensures { Puts (request_body self.walk) room.old result room.new }
+    {
+        let at = put_head(self.walk, room);
+        let n = 4 * self.walk.level;
+        let bytes = slots::mask_bytes(n);
+        room[at] = n;
+        let _ = frames::put_field(room, at + 1, bytes, self.walk.mask());
+        at + 1 + bytes
+    }
+
+    // How long the round's request is.
+    #[tactic(auto, using(crate::proofs::Limits::level_few))]
+    fn request_length(self) -> usize
+        ensures { result ≡ length (request self.walk) }
+    {
+        let bytes = slots::mask_bytes(4 * self.walk.level);
+        if has_family(self.walk.family) {
+            bytes + 6
+        } else {
+            bytes + 5
+        }
+    }
+
+    #[tactic(auto, using(std::proofs::lemmas::Bool::Decides::nat_tests), unfolding(crate::specs::Ask::sent, crate::specs::Record::is_running))]
+    fn send(self) -> Send
+        ensures { result ≡ sent self.walk }
+    {
+        if self.walk.ending != 0 {
+            return Send::Nothing;
+        }
+        if self.walk.slot == 0 {
+            return Send::Request(self.request_length());
+        }
+        Send::Mark
+    }
+
+    // Puts the request into the room, which is long enough, if one is to be sent.
+    #[tactic(auto, using(crate::proofs::AskWays::room_of_request), unfolding(crate::specs::Ask::room_after, crate::specs::Ask::room_asked))]
+    fn fill(self, send: Send, room: &mut [u8])
+        requires { room_asked send ≤ length room.old }
+        ensures { room.new ≡ room_after self.walk send room.old }
+    {
+        match send {
+            Send::Nothing | Send::Mark => {}
+            Send::Request(_) => {
+                let n = self.put_body(room);
+                let _ = frames::seal(room, n);
+            }
         }
     }
 }
 
 impl Walk {
     // What to send. It may be asked often; a request has 13 bytes at the most, and asks for room for 14.
-    pub fn ask(self, room: &mut [u8]) -> Asked
+    pub fn ask(self, room: &mut [u8]) -> Result<Asked, Refusal>
         ensures { Asks self (asking self room.old) result room.new }
     {
-        let number = refusal(self, room.len());
-        if number != 0 {
-            return Asked {
-                walk: self,
-                number: number,
-                send: Send::Nothing,
-            };
-        }
-        let send = send(self);
-        fill(self, send, room);
-        Asked {
-            walk: self,
-            number: 0,
-            send: send,
-        }
+        refusal(self, room.len())?;
+        let accepted = AcceptedWalk { walk: self };
+        let send = accepted.send();
+        accepted.fill(send, room);
+        Ok(Asked { walk: self, send })
     }
 }

@@ -1,6 +1,9 @@
 // The reader's inventory walk: which request a round sends, what each slot makes of the walk, and how it ends.
 #![tactic(auto)]
 
+ghost use Rattle.std.specs.Prelude.{◌≡◌, true};
+ghost use Rattle.walk.specs.Record.{is_accepted};
+
 mod ask;
 mod hear;
 mod marks;
@@ -31,6 +34,13 @@ pub struct Walk {
     pub ending: u8,
 }
 
+// A record that number 10 does not refuse.
+#[derive(Clone, Copy)]
+pub(crate) struct AcceptedWalk {
+    pub walk: Walk,
+    ghost fits: { is_accepted walk ≡ true },
+}
+
 // What the radio says of a slot. Bytes are looked at for the third only.
 #[derive(Clone, Copy)]
 pub enum Kind {
@@ -47,11 +57,13 @@ pub enum Slot {
     Clean(u64),
 }
 
-// What hearing returns: the next walk, and the number of the refusal or 0.
+// How a walk ends, by the number of its record.
 #[derive(Clone, Copy)]
-pub struct Heard {
-    pub walk: Walk,
-    pub number: u8,
+pub(crate) enum Ending {
+    Complete = 1,
+    Twins = 2,
+    Full = 3,
+    Overrun = 4,
 }
 
 // What to send: a request of so many bytes, a slot mark, or nothing after an ending.
@@ -62,10 +74,9 @@ pub enum Send {
     Request(usize),
 }
 
-// What asking returns: the walk, which stays, the number of the refusal or 0, and what to send.
+// What asking returns: the walk, which stays, and what to send.
 #[derive(Clone, Copy)]
 pub struct Asked {
     pub walk: Walk,
-    pub number: u8,
     pub send: Send,
 }

@@ -1,10 +1,12 @@
 // The clash marks: for each level a number whose bit s says that slot s clashed and waits.
 ghost use Rattle.std.specs.Prelude.{◌≡◌, ◌^◌, ◌<◌};
+ghost use Rattle.walk.specs.Steps.{levels_to};
 ghost use Rattle.walk.specs.Marks.{waits, with_mark, without_mark, lowest, deepest};
 
 use crate::LEVELS;
 
 // The number of slot s alone.
+#[tactic(auto, using(crate::proofs::Levels::power_at))]
 fn power(s: u8) -> u16
     requires { s < 16 }
     ensures { result ≡ 2 ^ s }
@@ -12,6 +14,7 @@ fn power(s: u8) -> u16
     1u16 << s
 }
 
+#[tactic(auto, using(std::proofs::lemmas::Bool::Decides::nat_tests), unfolding(crate::specs::Marks::waits))]
 fn waits(m: u16, s: u8) -> bool
     requires { s < 16 }
     ensures { result ≡ waits m s }
@@ -19,6 +22,7 @@ fn waits(m: u16, s: u8) -> bool
     m / power(s) % 2 == 1
 }
 
+#[tactic(auto, using(crate::proofs::Levels::mark_fits), unfolding(crate::specs::Marks::with_mark))]
 pub(crate) fn with_mark(m: u16, s: u8) -> u16
     requires { s < 16 }
     ensures { result ≡ with_mark m s }
@@ -26,6 +30,7 @@ pub(crate) fn with_mark(m: u16, s: u8) -> u16
     if waits(m, s) { m } else { m + power(s) }
 }
 
+#[tactic(auto, using(crate::proofs::Levels::mark_stands), unfolding(crate::specs::Marks::without_mark))]
 pub(crate) fn without_mark(m: u16, s: u8) -> u16
     requires { s < 16 }
     ensures { result ≡ without_mark m s }
@@ -34,24 +39,17 @@ pub(crate) fn without_mark(m: u16, s: u8) -> u16
 }
 
 // The lowest slot that waits.
+#[tactic(auto, using(crate::proofs::Levels::lowest_least))]
 pub(crate) fn lowest(m: u16) -> u8
     ensures { result ≡ lowest m }
 {
-    let zeros = u16::trailing_zeros(m);
-    if zeros < 15 { zeros as u8 } else { 15 }
+    m.trailing_zeros().min(15) as u8
 }
 
-// One more than the deepest level with a mark, or 0.
-pub(crate) fn deepest(marks: [u16; LEVELS]) -> usize
-    ensures { result ≡ deepest marks }
+// The deepest level with a mark.
+#[tactic(auto, using(crate::proofs::Levels::deepest_told))]
+pub(crate) fn deepest(marks: &[u16; LEVELS]) -> Option<usize>
+    ensures { levels_to result ≡ deepest marks.now }
 {
-    let mut n = LEVELS;
-    while 0 < n {
-        let level = n - 1;
-        if marks[level] != 0 {
-            return level + 1;
-        }
-        n -= 1;
-    }
-    0
+    marks.iter().rposition(|&mark| mark != 0)
 }

@@ -6,4 +6,4 @@ use Rattle.crc.proofs.take.Goals as goal
 
 pub returns : goal.returns
 unfolding taken_by_table
-returns c = rw (c.entry-low.ensures, add-sub_cancel_left) (taken_by_table_lem _ _)
+returns c = rw (c.from-low.ensures, c.entry.ensures, add-sub_cancel_left, c.from.ensures) (taken_by_table_lem _ _)

@@ -1,39 +1,25 @@
--- `digits::has_form` meets its contract. The loop's invariant: what is left of text and form decides. The measure is how much is left.
--- Assumes nothing.
-use native.Mathlib.Omega.{arith}
-use mathlib.Core.Path.{refl, sym, ◌∙◌}
-use Rattle.digits.proofs.Digits.{form_length, form_cons, form_end}
+-- `digits::has_form` meets its contract: texts of another length have another form; else each byte fits its own. Assumes nothing.
+use mathlib.Core.Path.{◌≡◌, ◌∙◌}
+use borrow.Author.Tests.{ne_eqb}
+use Rattle.std.specs.Iterator.Adapters.{zip_second}
+use Rattle.std.specs.Slice.Iter.{iter_rest}
+use Rattle.std.proofs.Common.{rules, tests}
+use Rattle.std.proofs.lemmas.Iterator.{YieldsList-from_slice, YieldsList-from_zip}
+use Rattle.std.proofs.lemmas.Iterator.Consumers.{YieldsList-at}
+use Rattle.std.proofs.lemmas.Iterator.Search.{all_from_yields_List}
+use Rattle.digits.specs.Digits.{fits}
+use Rattle.digits.proofs.Digits.{form_length, form_pairs}
 use Rattle.digits.proofs.has_form.Goals as goal
 
 pub returns-then-text-form : goal.returns-then-text-form
-returns-then-text-form c = form_length _ _ c.if-text-form.true
+returns-then-text-form c =
+    let text = c.args.text.now in
+    let form = c.args.form.now in
+    let second : iter_rest (zip_second c.zip.result) ≡ form = search rules in
+    all_from_yields_List (λ p. fits p.0 p.1) c.all.new.self _ c.all.result c.all.ensures.ran
+    (YieldsList-from_zip (YieldsList-at c.zip.ensures.first (YieldsList-from_slice text c.iter.ensures.rest)) (YieldsList-from_slice form second))
+    (λ x b q k. search (rules, tests))
+    ∙ form_pairs text form c.if-text-form.true
 
-pub loop-i-init : goal.loop-i-init
-loop-i-init c = (omega arith, refl)
-
-pub fits-requires : goal.fits-requires
-fits-requires c = tt
-
-pub returns-then-not-fits : goal.returns-then-not-fits
-returns-then-not-fits c =
-    let fits = c.fits in
-    let loop = c.loop-i in
-    let same = c.if-text-form.false in
-    let args = c.args in
-    let here = form_cons args.text.now args.form.now loop.i (omega arith) same in
-    rw (← loop.invariant.1, here, ← fits.ensures, c.if-not-fits.true)
-
-pub loop-i-preserved : goal.loop-i-preserved
-loop-i-preserved c =
-    let fits = c.fits in
-    let loop = c.loop-i in
-    let same = c.if-text-form.false in
-    let args = c.args in
-    let here = form_cons args.text.now args.form.now loop.i (omega arith) same in
-    (omega arith, sym (rw (← fits.ensures, c.if-not-fits.false) at here) ∙ loop.invariant.1)
-
-pub returns : goal.returns
-returns c =
-    let loop = c.loop-i in
-    let args = c.args in
-    sym (form_end args.text.now args.form.now loop.i (omega arith) c.if-text-form.false) ∙ loop.invariant.1
+pub returns-else-text-form : goal.returns-else-text-form
+returns-else-text-form c = rw (ne_eqb _ _ c.if-text-form.false) (form_length _ _ c.if-text-form.false)

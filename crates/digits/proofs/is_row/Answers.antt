@@ -1,38 +1,18 @@
--- `digits::is_row` meets its contract. The loop's invariant: what is left of the text decides. The measure is how much is left. Assumes nothing.
-use native.Mathlib.Omega.{arith}
-use mathlib.Core.Path.{refl, sym, ◌∙◌}
-use Rattle.digits.proofs.Rows.{row_cons, row_cut, row_end}
+-- `digits::is_row` meets its contract: three bytes at a time, each a pair; a part of a pair is no row. Assumes nothing.
+use mathlib.Core.Path.{◌∙◌}
+use borrow.Author.Tests.{ne_eqb}
+use Rattle.std.proofs.Common.{rules, tests}
+use Rattle.std.proofs.lemmas.Iterator.Search.{all_from_yields_List}
+use Rattle.digits.proofs.Rows.{is_three, yields_threes, row_threes, row_cut}
 use Rattle.digits.proofs.is_row.Goals as goal
 
-pub loop-i-init : goal.loop-i-init
-loop-i-init c = (omega arith, refl)
-
-pub returns-then-text-i-lt3 : goal.returns-then-text-i-lt3
-returns-then-text-i-lt3 c =
-    let loop = c.loop-i in
+pub returns-then-text-eq0 : goal.returns-then-text-eq0
+returns-then-text-eq0 c =
     let text = c.args.text.now in
-    sym (row_cut text loop.i (omega arith) (omega arith)) ∙ loop.invariant.1
+    all_from_yields_List is_three c.all.new.self _ c.all.result c.all.ensures.ran
+    (yields_threes text c.chunks_exact.ensures.rest c.chunks_exact.ensures.size)
+    (λ x b q k. search (rules, tests))
+    ∙ row_threes text c.if-text-eq0.true
 
-pub is_pair-requires : goal.is_pair-requires
-is_pair-requires c = tt
-
-pub returns-then-not-is_pair : goal.returns-then-not-is_pair
-returns-then-not-is_pair c =
-    let pair = c.is_pair in
-    let loop = c.loop-i in
-    let text = c.args.text.now in
-    rw (← loop.invariant.1, row_cons text loop.i (omega arith), ← pair.ensures, c.if-not-is_pair.true)
-
-pub loop-i-preserved : goal.loop-i-preserved
-loop-i-preserved c =
-    let pair = c.is_pair in
-    let loop = c.loop-i in
-    let text = c.args.text.now in
-    let here = row_cons text loop.i (omega arith) in
-    (omega arith, sym (rw (← pair.ensures, c.if-not-is_pair.false) at here) ∙ loop.invariant.1)
-
-pub returns : goal.returns
-returns c =
-    let loop = c.loop-i in
-    let text = c.args.text.now in
-    sym (row_end text loop.i (omega arith)) ∙ loop.invariant.1
+pub returns-else-text-eq0 : goal.returns-else-text-eq0
+returns-else-text-eq0 c = rw (ne_eqb _ _ c.if-text-eq0.false) (row_cut _ c.if-text-eq0.false)

@@ -1,36 +1,19 @@
--- `digits::put_bytes` meets its contract: refused twice for want of room, else copied. The loop's invariant: the first i bytes stand there. The
--- measure is what is left of them. Assumes nothing.
+-- `digits::put_bytes` meets its contract: refused for want of room, else copied. Assumes nothing.
 use native.Mathlib.Omega.{arith}
-use mathlib.Core.Path.{◌≡◌, refl, sym}
-use Prim.Native.Nat.{◌+◌}
-use mir.Syntax.{w64}
-use mir.ValLaws.{to_z_pos}
-use lib.ListN.{length, length-set}
-use lib.Seq.{take_all}
-use Rattle.lent.proofs.Puts.{copied_none, copied_more}
-use Rattle.digits.proofs.Put.{put_refused, put_served}
+use Prim.Native.Nat.{◌-◌}
+use mathlib.Core.Path.{refl}
+use Rattle.std.proofs.lemmas.Result.{err_from_is_err_and}
+use Rattle.digits.proofs.Put.{put_refused, put_served, part_placed}
 use Rattle.digits.proofs.put_bytes.Goals as goal
 
-pub returns-then-room-bytes : goal.returns-then-room-bytes
-returns-then-room-bytes c = put_refused _ _ _ _ refl (omega arith)
-
-pub returns-then-room-bytes-2 : goal.returns-then-room-bytes-2
-returns-then-room-bytes-2 c = put_refused _ _ _ _ refl (omega arith)
-
-pub loop-i-init : goal.loop-i-init
-loop-i-init c = (omega arith, refl, copied_none _ c.args.bytes.now _)
-
-pub loop-i-preserved : goal.loop-i-preserved
-loop-i-preserved c =
-    let loop = c.loop-i in
-    let args = c.args in
-    (omega arith, simp length-set loop.invariant.1, copied_more args.bytes.now loop.i loop.invariant.2 (omega arith) (omega arith))
+pub returns-in_err-end : goal.returns-in_err-end
+returns-in_err-end c =
+    let p = err_from_is_err_and c.from_residual.result c.from_residual.ensures.1 in
+    let short = c.in_err-end.ensures in
+    put_refused _ _ _ _ _ refl (cc (p.1, p.2, short.0)) (omega (arith, short.1))
 
 pub returns : goal.returns
 returns c =
-    let loop = c.loop-i in
-    let args = c.args in
-    let all : loop.i ≡ length args.bytes.now = omega arith in
-    let whole = take_all loop.i args.bytes.now (omega arith) in
-    rw (to_z_pos w64 (args.at + loop.i) (omega arith))
-    (put_served _ _ _ _ _ (sym all) (omega arith) (rw whole at loop.invariant.2.leaves))
+    let here = c.in_ok-end.ensures in
+    let part = part_placed c.args.bytes.now c.args.text.now c.args.at (c.in_ok-end.end - c.args.at) (omega (arith, here.0)) in
+    put_served _ _ _ _ _ _ refl here.0 here.1 (rw c.copy_from_slice.ensures.after part)

@@ -3,9 +3,6 @@
 use native.Mathlib.Omega.{arith}
 use mathlib.Core.Path.{refl}
 use lib.ListN.{drop, length-set}
-use borrow.Author.Rules.{sfits_of}
-use mir.Syntax.{w64}
-use mir.ValLaws.{to_z-of_z}
 use Rattle.digits.proofs.Decimal.{decimal_last, above_more, above_over, digits_left, tenth_below, put_part}
 use Rattle.digits.proofs.put_decimal.Goals as goal
 
@@ -40,4 +37,4 @@ returns c =
     let put = c.put_bytes in
     let part = put_part loop.first loop.digits loop.invariant.0 in
     let none = above_over loop.rest (drop loop.first loop.digits) (omega arith) in
-    rw (to_z-of_z w64 put.result (sfits_of put.type_inv)) (rw (part, ← none, loop.invariant.3) at put.ensures)
+    rw (part, ← none, loop.invariant.3) at put.ensures

@@ -1,16 +1,12 @@
--- `frames::fill` meets its contract. The loop's invariant: the i lowest bytes are placed, and the rest of the value is left.
--- The measure is what is left of the count. Assumes nothing.
+-- `frames::fill` meets its contract. The loop's invariant: what stands at the places that were passed, and the low bytes of what is left for the other
+-- places, are the low bytes of the value. Assumes nothing.
 use mathlib.Core.Path.{◌≡◌}
-use Prim.Native.Nat.{◌-◌, ◌≤◌}
-use lib.ListN.{length}
-use Rattle.lent.specs.Lent.{placed}
+use mathlib.Core.List.{◌++◌}
+use Prim.Native.Nat.{◌-◌}
+use lib.ListN.{length, take}
 use Rattle.frames.specs.Field.{field_bytes}
-use Rattle.frames.proofs.Fields.{upper}
 use Rattle.frames.proofs.fill.Given as goal
 
-abbrev pub invariant-loop-i : goal.invariant-loop-i
-invariant-loop-i l =
-    (l.i ≤ l.count) × (length l.buffer ≡ length l.initial.buffer) × (l.left ≡ upper l.i l.value) × (l.buffer ≡ placed l.at (field_bytes l.i l.value) l.initial.buffer)
-
-abbrev pub decreases-loop-i : goal.decreases-loop-i
-decreases-loop-i l = l.count - l.i
+abbrev pub invariant-loop-slot : goal.invariant-loop-slot
+invariant-loop-slot l =
+    take l.slot-index l.slot-items ++ field_bytes (length l.fn.field - l.slot-index) l.left ≡ field_bytes (length l.fn.field) l.value

@@ -5,4 +5,4 @@ use Rattle.frames.proofs.join.Goals as goal
 
 pub returns : goal.returns
 unfolding field_of
-returns c = omega arith
+returns c = omega (arith, c.from_le_bytes.ensures)

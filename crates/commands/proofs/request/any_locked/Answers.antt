@@ -1,23 +1,20 @@
--- `commands::request::any_locked` meets its contract. The loop's invariant: what was found so far is what i lock bytes say. The measure is how
--- many are left. Assumes nothing.
+-- `commands::request::any_locked` meets its contract: by the lock bytes, first to last (Blocks.antt). Assumes nothing.
+use mathlib.Core.Path.{◌≡◌, refl, ◌∙◌}
 use native.Mathlib.Omega.{arith}
-use native.Mathlib.Numerals.{add-one}
-use mathlib.Core.Path.{◌≡◌, refl}
 use Prim.Native.Nat.{◌+◌}
-use Rattle.commands.specs.Request.{is_locked, any_locked}
+use Rattle.std.proofs.Common.{rules}
+use Rattle.std.specs.List.{list_any, range_with_len}
+use Rattle.std.proofs.lemmas.Iterator.{YieldsList-from_range}
+use Rattle.std.proofs.lemmas.Iterator.Search.{any_from_yields_List}
+use Rattle.commands.specs.Request.{is_locked}
+use Rattle.commands.proofs.Blocks.{any_locked_counted}
 use Rattle.commands.proofs.request.any_locked.Goals as goal
 
-pub loop-i-init : goal.loop-i-init
-unfolding any_locked
-loop-i-init c = (omega arith, refl)
-
-pub loop-i-preserved : goal.loop-i-preserved
-unfolding any_locked is_locked
-loop-i-preserved c =
-    let loop = c.loop-i in
-    (omega arith, rw (c.either-found.ensures, c.byte_at.ensures, loop.invariant.1, add-one))
-
 pub returns : goal.returns
+unfolding is_locked
 returns c =
-    let past : c.loop-i.i ≡ c.args.n + 1 = omega arith in
-    rw past at c.loop-i.invariant.1
+    let a = c.args in
+    let numbers = YieldsList-from_range 0 (a.n + 1) (a.n + 1) refl (omega arith) in
+    let found : c.any.result ≡ list_any (λ i. is_locked a.locks.now (a.first + i)) (range_with_len 0 (a.n + 1)) =
+    any_from_yields_List (λ i. is_locked a.locks.now (a.first + i)) _ _ c.any.result c.any.ensures.ran numbers (λ x b q k. search rules) in
+    found ∙ any_locked_counted a.locks.now a.first (a.n + 1)

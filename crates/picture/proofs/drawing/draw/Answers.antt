@@ -3,27 +3,31 @@
 use mathlib.Core.Path.{refl, sym, subst, ◌∙◌}
 use native.Mathlib.Omega.{arith}
 use Rattle.row.proofs.Played.{slots_fit, still_few}
+use Rattle.digits.proofs.Put.{put_can, put_at}
 use Rattle.picture.specs.Drawn.{heading}
 use Rattle.picture.proofs.Lengths.{length_twins}
 use Rattle.picture.proofs.Slots.{drawing_none, drawing_room, drawing_more, drawing_over, dealt_most, drawn_puts}
 use Rattle.picture.proofs.Moves.{Fit, fresh_fit}
 use Rattle.picture.proofs.drawing.draw.Goals as goal
 
+pub unwrap-at-requires : goal.unwrap-at-requires
+unwrap-at-requires c = put_can _ c.put_bytes.ensures (omega arith)
+
 pub loop-row-init : goal.loop-row-init
 loop-row-init c =
     let args = c.args in
-    let put = c.put-at in
+    let put = put_at _ _ c.put_bytes.ensures (omega arith) c.unwrap-at.ensures in
     let deal = c.deal-row in
     let most = dealt_most _ args.n c.fresh-desk.ensures deal.ensures in
-    (refl, drawing_none _ _ _ _ (subst Fit (sym c.fresh-desk.ensures) fresh_fit) most (omega (arith, put.ensures.next)))
+    (refl, drawing_none _ _ _ _ (subst Fit (sym c.fresh-desk.ensures) fresh_fit) most (omega (arith, put.next)))
 
 pub put_slot-at-requires : goal.put_slot-at-requires
 put_slot-at-requires c =
-    let put = c.put-at in
+    let put = put_at _ _ c.put_bytes.ensures (omega arith) c.unwrap-at.ensures in
     let loop = c.loop-row in
     record {
       walk_value = loop.invariant.1.fit.accepted;
-      at_in_bounds = omega (arith, drawing_room loop.invariant.1, loop.invariant.1.room, put.ensures.next);
+      at_in_bounds = omega (arith, drawing_room loop.invariant.1, loop.invariant.1.room, put.next);
     }
 
 pub overflow_add-count : goal.overflow_add-count
@@ -50,11 +54,11 @@ loop-row-preserved c =
 
 pub put_twins-requires : goal.put_twins-requires
 put_twins-requires c =
-    let put = c.put-at in
+    let put = put_at _ _ c.put_bytes.ensures (omega arith) c.unwrap-at.ensures in
     let loop = c.loop-row in
     record {
       walk_value = loop.invariant.1.fit.accepted;
-      at_in_bounds = omega (arith, drawing_room loop.invariant.1, loop.invariant.1.room, put.ensures.next);
+      at_in_bounds = omega (arith, drawing_room loop.invariant.1, loop.invariant.1.room, put.next);
     }
 
 pub returns : goal.returns
@@ -62,7 +66,7 @@ unfolding heading
 returns c =
     let args = c.args in
     let pre = c.requires in
-    let put = c.put-at in
+    let put = put_at _ _ c.put_bytes.ensures (omega arith) c.unwrap-at.ensures in
     let deal = c.deal-row in
     let fresh = c.fresh-desk in
     let loop = c.loop-row in
@@ -70,5 +74,5 @@ returns c =
     let if1 = c.loop-row-test in
     let put-twins = c.put_twins in
     let over = drawing_over loop.invariant.1 (sym goes_on.ensures ∙ if1.false) in
-    drawn_puts args.uids args.n fresh.ensures deal.ensures put.ensures over put-twins.ensures
-    (omega (arith, drawing_room loop.invariant.1, put.ensures.next, put-twins.ensures.next, length_twins loop.desk, pre))
+    drawn_puts args.uids args.n fresh.ensures deal.ensures put over put-twins.ensures
+    (omega (arith, drawing_room loop.invariant.1, put.next, put-twins.ensures.next, length_twins loop.desk, pre))

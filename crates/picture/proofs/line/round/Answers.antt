@@ -1,13 +1,23 @@
 -- `picture::line::round` meets its contract: a number of one, two or three digits. Assumes nothing.
 use native.Mathlib.Omega.{arith}
+use mathlib.Core.Path.{◌∙◌}
 use Rattle.picture.proofs.Pieces.{round_1, round_2, round_3}
 use Rattle.picture.proofs.line.round.Goals as goal
-
-pub returns-then-n-lt10 : goal.returns-then-n-lt10
-returns-then-n-lt10 c = round_1 _ (omega arith) c.digit.ensures
-
-pub returns-then-n-lt100 : goal.returns-then-n-lt100
-returns-then-n-lt100 c = round_2 _ (omega arith) (omega arith) c.digit-then-n-lt100.ensures c.digit-then-n-lt100-2.ensures
+use Rattle.picture.proofs.line.round.Goals.{then-n-lt100, else-n-lt100, then-n-lt10, else-n-lt10}
 
 pub returns : goal.returns
-returns c = round_3 _ (omega arith) (omega arith) c.digit-2.ensures c.digit-3.ensures c.digit-4.ensures
+returns c =
+    let n = c.args.n in
+    elim c.if-n-lt100.branch [
+      | then-n-lt100 w ↦
+          elim c.if-n-lt10.branch [
+            | then-n-lt10 v ↦ rw (w.hundreds-is, v.tens-is) (round_1 n (omega arith) c.digit.ensures)
+            | else-n-lt10 v ↦ rw w.hundreds-is (round_2 n (omega arith) (omega arith) (v.tens-is ∙ v.digit-tens.ensures) c.digit.ensures)
+          ]
+      | else-n-lt100 w ↦
+          elim c.if-n-lt10.branch [
+            | then-n-lt10 v ↦ absurd (omega arith)
+            | else-n-lt10 v ↦
+                round_3 n (omega arith) (omega arith) (w.hundreds-is ∙ w.digit-hundreds.ensures) (v.tens-is ∙ v.digit-tens.ensures) c.digit.ensures
+          ]
+    ]

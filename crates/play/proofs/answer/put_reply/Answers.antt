@@ -1,48 +1,21 @@
 -- `play::answer::put_reply` meets its contract, by the reply: what it asks of each function follows from the room and from a reply
 -- that fits. Assumes nothing.
 use native.Mathlib.Omega.{arith}
-use native.Mathlib.Nat.{mul-le-mul_right}
 use lib.ListN.{length}
 use Rattle.play.proofs.Room.{room_of, blocks_room, status_room, reply_put}
 use Rattle.play.specs.Answer.{reply_bytes}
 use Rattle.play.proofs.Brief.{brief_bytes, is_brief_lem}
-use Rattle.play.proofs.Within.{blocks_within, status_within}
 use Rattle.play.proofs.answer.put_reply.Goals as goal
 
-pub put_blocks-requires : goal.put_blocks-requires
-put_blocks-requires c =
-    let args = c.args in
+pub put_blocks-requires-clause-option_in_bounds : goal.put_blocks-requires-clause-option_in_bounds
+put_blocks-requires-clause-option_in_bounds c =
     let asked = c.requires in
-    let is = c.in-Blocks.is in
-    let within = blocks_within args.card is asked.reply_value in
-    let stored = mul-le-mul_right args.card.size within in
-    let room = blocks_room args.card (length args.answer.now) is asked.reply_value asked.ready.fits in
-    record {
-      size_in_bounds = omega (arith, stored, asked.ready.stored);
-      n_in_bounds = omega (arith, within, asked.ready.marks);
-      option_in_bounds = omega (arith, room);
-    }
+    omega (arith, blocks_room c.args.card (length c.args.answer.now) c.in-Blocks.is asked.reply_value asked.ready.fits)
 
-pub put_locks-requires : goal.put_locks-requires
-put_locks-requires c =
-    let args = c.args in
+pub put_locks-requires-clause-n_in_bounds_2 : goal.put_locks-requires-clause-n_in_bounds_2
+put_locks-requires-clause-n_in_bounds_2 c =
     let asked = c.requires in
-    let is = c.in-Status.is in
-    let within = status_within args.card is asked.reply_value in
-    let room = status_room args.card (length args.answer.now) is asked.reply_value asked.ready.fits in
-    record {
-      n_in_bounds = omega (arith, within, asked.ready.marks);
-      n_in_bounds_2 = omega (arith, room);
-    }
-
-pub put_information-requires : goal.put_information-requires
-put_information-requires c =
-    let args = c.args in
-    let asked = c.requires in
-    record {
-      size_value = asked.ready.shape;
-      in_bounds = omega (arith, (room_of args.card (length args.answer.now) asked.ready.fits).least);
-    }
+    omega (arith, status_room c.args.card (length c.args.answer.now) c.in-Status.is asked.reply_value asked.ready.fits)
 
 pub put_brief-requires : goal.put_brief-requires
 put_brief-requires c =

@@ -1,13 +1,17 @@
 -- `play::events::finish` meets its contract: by the one test. Assumes nothing.
-use borrow.Author.Tests.{eq-eqb, ne_eqb, le-leb}
-use Rattle.frames.specs.Frame.{seal_leaves}
+use native.Mathlib.Omega.{arith}
+use mathlib.Core.Path.{◌≡◌, refl}
+use Prim.Native.Nat.{ℕ, ◌+◌}
+use borrow.Author.Tests.{ne_eqb}
+use Rattle.std.proofs.lemmas.Result.{IfOk-at_ok}
+use Rattle.frames.proofs.Ways.{seals_ok, seals_fits}
 use Rattle.play.proofs.events.finish.Goals as goal
 
-pub returns-then-n-eq0 : goal.returns-then-n-eq0
-returns-then-n-eq0 c = record { told = rw (eq-eqb _ _ c.if-n-eq0.true); leaves = rw (eq-eqb _ _ c.if-n-eq0.true) }
+pub unwrap-requires : goal.unwrap-requires
+unwrap-requires c = seals_ok c.seal.result c.seal.ensures (omega arith)
 
 pub returns : goal.returns
-unfolding seal_leaves
 returns c =
     let some = ne_eqb c.args.n 0 c.if-n-eq0.false in
-    record { told = rw some; leaves = rw some (rw (le-leb _ _ c.requires) at c.seal.ensures.leaves) }
+    let seal = seals_fits c.seal.result c.seal.ensures (omega arith) in
+    record { told = rw some (IfOk-at_ok (λ (end : ℕ). end ≡ c.args.n + 2) c.unwrap.ensures (rw seal.0 refl)); leaves = rw some seal.1 }

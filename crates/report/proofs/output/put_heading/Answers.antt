@@ -9,25 +9,24 @@ use Rattle.walk.proofs.Limits.{accepted_of_is_accepted, rounds_most}
 use Rattle.report.proofs.Printed.{puts_heading}
 use Rattle.report.proofs.output.put_heading.Goals as goal
 
-pub put_named-at-requires : goal.put_named-at-requires
+pub put_named-next-requires-clause-n_bound : goal.put_named-next-requires-clause-n_bound
 unfolding levels
-put_named-at-requires c =
-    let start = c in
-    let long : length start.args.walk.marks ≡ levels = search (rules, start.well_formed) in
-    record {
-      n_bound = omega (arith, rounds_most (accepted_of_is_accepted _ start.requires.walk_value) (omega (arith, long)));
-      name_in_bounds = omega arith;
-    }
+put_named-next-requires-clause-n_bound c =
+    let long : length c.args.walk.now.marks ≡ levels = search (rules, c.well_formed) in
+    omega (arith, c.from.ensures, rounds_most (accepted_of_is_accepted _ c.requires.walk_value) (omega (arith, long)))
+
+pub put_named-requires-clause-n_bound : goal.put_named-requires-clause-n_bound
+put_named-requires-clause-n_bound c = omega (arith, c.from-2.ensures, (accepted_of_is_accepted _ c.requires.walk_value).count)
 
 pub returns : goal.returns
 returns c =
-    let start = c in
     let verdict = c.put_verdict-at.ensures in
-    let rounds = c.put_named-at.ensures in
+    let rounds = c.put_named-next.ensures in
     let cards = c.put_named.ensures in
     let most : c.put_named.result ≤ 37 = omega (arith, verdict.upper_bound, rounds.upper_bound, cards.upper_bound) in
     record {
       puts_at =
-          puts_heading start.args.walk verdict.puts_at rounds.puts_at cards.puts_at (omega (arith, start.requires.in_bounds, most));
+          puts_heading c.args.walk.now verdict.puts_at (rw c.from.ensures at rounds.puts_at) (rw c.from-2.ensures at cards.puts_at)
+          (omega (arith, c.requires.in_bounds, most));
       upper_bound = most;
     }

@@ -1,42 +1,40 @@
--- `report::output::put_list` meets its contract. The loop's invariant: the lines of the first i UIDs stand there, 17 bytes each. The measure is what
--- is left of the list. Assumes nothing.
-use borrow.Author.Rules.{rules}
+-- `report::output::put_list` meets its contract. The loop's invariant: the lines of the first UIDs stand there, 17 bytes each. Assumes nothing.
 use native.Mathlib.Omega.{arith}
-use mathlib.Core.Path.{◌≡◌, refl, ◌∙◌}
-use lib.ListN.{length, get_or, length-set}
-use Rattle.lent.proofs.Puts.{length_puts}
+use lib.ListN.{get_or}
+use lib.Seq.{take_all}
 use Rattle.digits.proofs.Digits.{length_hex_digits}
+use Rattle.digits.proofs.Put.{put_can, put_at}
 use Rattle.report.proofs.Printed.{lines_puts_none, lines_puts_more}
 use Rattle.report.proofs.output.put_list.Goals as goal
 
-pub loop-i-init : goal.loop-i-init
-loop-i-init c = (omega arith, refl, lines_puts_none _ c.args.list _)
+pub loop-uid-init : goal.loop-uid-init
+loop-uid-init c = (omega arith, lines_puts_none _ c.args.uids.now _)
+
+pub unwrap-end-requires : goal.unwrap-end-requires
+unwrap-end-requires c = put_can _ c.put_digits.ensures (rw length_hex_digits (omega arith))
+
+pub overflow_add-next : goal.overflow_add-next
+overflow_add-next c =
+    let put = put_at _ _ c.put_digits.ensures (rw length_hex_digits (omega arith)) c.unwrap-end.ensures in
+    omega (arith, put.next, length_hex_digits 16 (get_or c.args.uids.now c.loop-uid.uid-index 0), c.put_digits.auto.text)
 
 pub bounds-out-end : goal.bounds-out-end
 bounds-out-end c =
-    let put-uid = c.put_uid-end in
-    let loop = c.loop-i in
-    let args = c.args in
-    let digits = length_hex_digits 16 (get_or args.list loop.i 0) in
-    let same = length_puts put-uid.ensures (omega (arith, digits)) in
-    omega (arith, same, digits, put-uid.ensures.next)
+    let put = put_at _ _ c.put_digits.ensures (rw length_hex_digits (omega arith)) c.unwrap-end.ensures in
+    omega (arith, put.next, length_hex_digits 16 (get_or c.args.uids.now c.loop-uid.uid-index 0), c.put_digits.auto.text)
 
-pub loop-i-preserved : goal.loop-i-preserved
-loop-i-preserved c =
-    let put-uid = c.put_uid-end in
-    let loop = c.loop-i in
-    let args = c.args in
-    let places : length args.list ≡ 64 = search rules in
-    let digits = length_hex_digits 16 (get_or args.list loop.i 0) in
-    let same = length_puts put-uid.ensures (omega (arith, digits)) in (
-      omega arith,
-      simp length-set (same ∙ loop.invariant.1),
-      lines_puts_more args.list loop.i loop.invariant.2 put-uid.ensures (omega (arith, places)) loop.invariant.1 (omega arith),
+pub loop-uid-preserved : goal.loop-uid-preserved
+loop-uid-preserved c =
+    let loop = c.loop-uid in
+    let uids = c.args.uids.now in
+    let put = put_at _ _ c.put_digits.ensures (rw length_hex_digits (omega arith)) c.unwrap-end.ensures in
+    let digits = length_hex_digits 16 (get_or uids loop.uid-index 0) in (
+      omega (arith, put.next, digits),
+      lines_puts_more uids loop.uid-index loop.invariant.0 loop.invariant.1 put (omega arith) (omega arith) (omega arith),
     )
 
 pub returns : goal.returns
 returns c =
-    let loop = c.loop-i in
-    let args = c.args in
-    let past : loop.i ≡ args.n = omega arith in
-    rw (← past) loop.invariant.2
+    let loop = c.loop-uid in
+    let all = take_all loop.uid-index c.args.uids.now (omega arith) in
+    rw all at loop.invariant.1

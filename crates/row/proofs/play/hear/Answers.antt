@@ -3,4 +3,4 @@ use Rattle.row.proofs.Answer.{desk_heard}
 use Rattle.row.proofs.play.hear.Goals as goal
 
 pub returns : goal.returns
-returns c = desk_heard _ _ c.kind_of.ensures c.answer_in-bytes.ensures c.hear-heard.ensures
+returns c = desk_heard _ _ c.kind_of.ensures c.answer_in.ensures c.hear-heard.ensures c.unwrap_or.ensures

@@ -7,4 +7,4 @@ pub returns : goal.returns
 returns c =
     let clear = c.clear in
     let pattern-of = c.pattern_of in
-    rw (clear.ensures, pattern-of.ensures) (placed_long _ _ _ (omega arith) (omega arith))
+    rw (clear.ensures, pattern-of.ensures, c.from-place.ensures) (placed_long _ _ _ (omega arith) (omega arith))

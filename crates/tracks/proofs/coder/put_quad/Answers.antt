@@ -1,18 +1,8 @@
 -- `tracks::coder::put_quad` meets its contract: four stores place four bytes. Assumes nothing.
-use lib.ListN.{length-set}
 use native.Mathlib.Omega.{arith}
 use Rattle.tracks.specs.Track.{quad}
 use Rattle.lent.proofs.Over.{set_four}
 use Rattle.tracks.proofs.coder.put_quad.Goals as goal
-
-pub bounds-track-at-2 : goal.bounds-track-at-2
-bounds-track-at-2 c = simp length-set (omega arith)
-
-pub bounds-track-at-3 : goal.bounds-track-at-3
-bounds-track-at-3 c = simp length-set (omega arith)
-
-pub bounds-track-at-4 : goal.bounds-track-at-4
-bounds-track-at-4 c = simp length-set (omega arith)
 
 pub returns : goal.returns
 unfolding quad

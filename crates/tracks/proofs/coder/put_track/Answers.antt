@@ -1,17 +1,10 @@
 -- `tracks::coder::put_track` meets its contract: start, units and end make the track. Assumes nothing.
 use native.Mathlib.Omega.{arith}
-use lib.ListN.{length-set}
 use Prim.Native.Nat.{◌-◌}
 use Rattle.tracks.specs.Track.{track_of}
 use Rattle.lent.proofs.Over.{placed_between}
 use Rattle.tracks.proofs.Units.{length_pulses}
 use Rattle.tracks.proofs.coder.put_track.Goals as goal
-
-pub put_all-requires : goal.put_all-requires
-put_all-requires c = simp length-set (omega arith)
-
-pub bounds-track-n : goal.bounds-track-n
-bounds-track-n c = omega (arith, simp length-set at c.put_all.auto.track)
 
 pub returns : goal.returns
 unfolding track_of

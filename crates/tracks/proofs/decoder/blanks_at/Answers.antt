@@ -1,15 +1,8 @@
 -- `tracks::decoder::blanks_at` meets its contract. The loop's invariant: i bytes 00 passed and those that follow are all there are.
 -- The measure is what is left of the part. Assumes nothing.
 use native.Mathlib.Omega.{arith}
-use native.Mathlib.Nat.{add-zero, zero-add, sub-zero}
 use Rattle.tracks.proofs.Zeros.{zeros_skip}
 use Rattle.tracks.proofs.decoder.blanks_at.Goals as goal
-
-pub loop-i-init : goal.loop-i-init
-loop-i-init c = (omega arith, rw (sub-zero, add-zero, zero-add))
-
-pub returns-then-not-eight_blank : goal.returns-then-not-eight_blank
-returns-then-not-eight_blank c = record { within = c.loop-i.invariant.0; passed = c.loop-i.invariant.1 }
 
 pub loop-i-preserved : goal.loop-i-preserved
 loop-i-preserved c =
@@ -20,6 +13,3 @@ loop-i-preserved c =
     let bytes = eight-blank.ensures c.if-not-eight_blank.false in
     let eight = zeros_skip 8 args.track.now args.at args.n loop.i (omega arith) asked bytes in
     (omega arith, omega (arith, eight))
-
-pub returns : goal.returns
-returns c = record { within = c.loop-i.invariant.0; passed = c.loop-i.invariant.1 }

@@ -1,9 +1,9 @@
 -- `tracks::decoder::put_bytes` meets its contract. The loop's invariant: the first i bytes stand in the frame, and the units left are bytes.
--- The measure is what is left of the units. Assumes nothing.
+-- Assumes nothing.
 use mathlib.Core.Path.{◌≡◌}
 use mathlib.Core.Bool.{true}
-use Prim.Native.Nat.{◌+◌, ◌-◌, ◌*◌, ◌≤◌}
-use lib.ListN.{length, drop}
+use Prim.Native.Nat.{◌+◌, ◌-◌, ◌*◌}
+use lib.ListN.{drop}
 use Rattle.tracks.specs.Steps.{are_bytes, bytes_of}
 use Rattle.tracks.specs.Track.{unit}
 use Rattle.lent.specs.Lent.{placed}
@@ -11,12 +11,5 @@ use Rattle.tracks.proofs.decoder.put_bytes.Given as goal
 
 abbrev pub invariant-loop-i : goal.invariant-loop-i
 invariant-loop-i l =
-    (l.i ≤ l.n)
-    × (length l.frame ≡ length l.initial.frame)
-    × (l.width ≡ unit l.coding)
-    × (l.at ≡ 1 + unit l.coding * l.i)
-    × (are_bytes l.coding (l.n - l.i) (drop l.at l.track) ≡ true)
-    × (l.frame ≡ placed 0 (bytes_of l.coding l.i (drop 1 l.track)) l.initial.frame)
-
-abbrev pub decreases-loop-i : goal.decreases-loop-i
-decreases-loop-i l = l.n - l.i
+    (are_bytes l.coding (l.n - l.i) (drop (1 + unit l.coding * l.i) l.track) ≡ true)
+    × (l.byte-items ≡ placed 0 (bytes_of l.coding l.i (drop 1 l.track)) l.initial.byte-items)

@@ -1,49 +1,25 @@
 -- `walk::Walk::ask` meets its contract: refused, or what is to be sent, put into the room (AskWays.antt). Assumes nothing.
-use borrow.Author.Rules.{rules}
-use native.Mathlib.Omega.{arith}
-use mathlib.Core.Path.{◌≡◌}
+use mathlib.Core.Path.{sym}
 use lib.ListN.{length}
-use Rattle.walk.specs.Marks.{levels}
-use Rattle.walk.proofs.Limits.{accepted_of_is_accepted}
+use Rattle.std.proofs.lemmas.Result.{err_from_is_err_and}
+use Rattle.refusals.specs.Number.{number_of}
 use Rattle.walk.proofs.AskWays.{served_of_refusal, asks_refused, asks_served}
 use Rattle.walk.proofs.Walk.ask.Goals as goal
 
-pub returns-then-number-ne0 : goal.returns-then-number-ne0
-returns-then-number-ne0 c =
-    let args = c.args in
-    let refusal = c.refusal-number in
-    let first = c.if-number-ne0 in
-    asks_refused args.self args.room.now _ refusal.ensures first.true
+pub returns-in_err-refusal : goal.returns-in_err-refusal
+unfolding number_of
+returns-in_err-refusal c =
+    let p = err_from_is_err_and c.from_residual.result c.from_residual.ensures.1 in
+    rw (p.1, p.2) (asks_refused c.args.self c.args.room.now _ c.in_err-refusal.ensures)
 
-pub send-send-requires : goal.send-send-requires
-unfolding levels
-send-send-requires c =
-    let args = c.args in
-    let refusal = c.refusal-number in
-    let first = c.if-number-ne0 in
-    let served = served_of_refusal args.self (length args.room.now) _ refusal.ensures first.false in
-    let long : length args.self.marks ≡ levels = search rules in
-    omega (arith, long, (accepted_of_is_accepted args.self served.accepted).level)
+pub invariant_of-accepted : goal.invariant_of-accepted
+unfolding number_of
+invariant_of-accepted c = record { fits = (served_of_refusal c.args.self (length c.args.room.now) (sym c.in_ok-refusal.ensures)).accepted }
 
 pub fill-requires : goal.fill-requires
-unfolding levels
-fill-requires c =
-    let args = c.args in
-    let refusal = c.refusal-number in
-    let first = c.if-number-ne0 in
-    let send = c.send-send in
-    let served = served_of_refusal args.self (length args.room.now) _ refusal.ensures first.false in
-    let long : length args.self.marks ≡ levels = search rules in
-    record {
-      level_bound = omega (arith, long, (accepted_of_is_accepted args.self served.accepted).level);
-      send_in_bounds = rw send.ensures served.enough;
-    }
+unfolding number_of
+fill-requires c = rw c.send-send.ensures (served_of_refusal c.args.self (length c.args.room.now) (sym c.in_ok-refusal.ensures)).enough
 
 pub returns : goal.returns
-returns c =
-    let args = c.args in
-    let refusal = c.refusal-number in
-    let first = c.if-number-ne0 in
-    let send = c.send-send in
-    let fill = c.fill in
-    asks_served args.self args.room.now _ _ _ refusal.ensures first.false send.ensures fill.ensures
+unfolding number_of
+returns c = asks_served c.args.self c.args.room.now _ _ c.in_ok-refusal.ensures c.send-send.ensures c.fill.ensures

@@ -1,47 +1,32 @@
 -- `walk::Walk::hear` meets its contract: refused, or the slot judged and taken (HearWays.antt). Assumes nothing.
-use borrow.Author.Rules.{rules}
-use native.Mathlib.Omega.{arith}
-use mathlib.Core.Path.{◌≡◌}
+use mathlib.Core.Path.{sym}
 use lib.ListN.{length}
-use Rattle.walk.specs.Marks.{levels}
-use Rattle.walk.specs.Record.{places}
-use Rattle.walk.specs.Hear.{has_place}
-use Rattle.walk.proofs.Limits.{accepted_of_is_accepted}
-use Rattle.walk.proofs.HearWays.{place_below, served_of_refusal, hears_refused, hears_served}
+use Rattle.std.proofs.lemmas.Result.{err_from_is_err_and}
+use Rattle.refusals.specs.Number.{number_of}
+use Rattle.walk.proofs.HearWays.{own_within, after_own, served_of_refusal, hears_refused, hears_served}
 use Rattle.walk.proofs.Walk.hear.Goals as goal
 
-pub returns-then-number-ne0 : goal.returns-then-number-ne0
-returns-then-number-ne0 c =
+pub returns-in_err-refusal : goal.returns-in_err-refusal
+unfolding number_of
+returns-in_err-refusal c =
     let args = c.args in
-    hears_refused args.self args.kind args.bytes.now args.list.now _ c.refusal-number.ensures c.if-number-ne0.true
+    let p = err_from_is_err_and c.from_residual.result c.from_residual.ensures.1 in
+    rw (p.1, p.2) (hears_refused args.self args.kind args.bytes.now args.list.now _ c.in_err-refusal.ensures)
 
-pub judge-slot-requires : goal.judge-slot-requires
-unfolding levels
-judge-slot-requires c =
-    let args = c.args in
-    let refusal = c.refusal-number in
-    let first = c.if-number-ne0 in
-    let served = served_of_refusal args.self (length args.list.now) _ refusal.ensures first.false in
-    let long : length args.self.marks ≡ levels = search rules in
-    omega (arith, long, (accepted_of_is_accepted args.self served.accepted).level)
+pub invariant_of-accepted : goal.invariant_of-accepted
+unfolding number_of
+invariant_of-accepted c = record { fits = (served_of_refusal c.args.self (length c.args.list.now) (sym c.in_ok-refusal.ensures)).accepted }
 
 pub take-requires : goal.take-requires
-unfolding has_place places
+unfolding number_of
 take-requires c =
     let args = c.args in
-    let served = served_of_refusal args.self (length args.list.now) _ c.refusal-number.ensures c.if-number-ne0.false in
-    record {
-      walk_value = served.accepted;
-      count_bound = λ h. let few = place_below args.self h in (few, omega (arith, few, served.list));
-    }
+    let served = served_of_refusal args.self (length args.list.now) (sym c.in_ok-refusal.ensures) in
+    own_within args.self _ _ served.list (rw c.from.ensures at c.then_some-place.ensures)
 
 pub returns : goal.returns
-unfolding has_place places
+unfolding number_of
 returns c =
     let args = c.args in
-    let refusal = c.refusal-number in
-    let first = c.if-number-ne0 in
-    let judge = c.judge-slot in
-    let take = c.take in
-    hears_served args.self args.kind args.bytes.now args.list.now _ _ _ _ refusal.ensures first.false judge.ensures
-    take.ensures
+    hears_served args.self args.kind args.bytes.now args.list.now _ _ _ c.in_ok-refusal.ensures c.judge-slot.ensures
+    (after_own args.self _ _ _ _ _ (rw c.from.ensures at c.then_some-place.ensures) c.take.ensures)

@@ -5,17 +5,13 @@ use Rattle.walk.proofs.Limits.{low_digits_most, digit_most}
 use Rattle.walk.proofs.record.opened_mask.Goals as goal
 
 pub overflow_mul-result : goal.overflow_mul-result
-overflow_mul-result c = omega (arith, digit_most c.unit.result c.args.s c.requires.s_bound, c.unit.ensures.upper_bound)
+overflow_mul-result c = rw c.from.ensures (omega (arith, digit_most c.unit.result c.args.s c.requires.s_bound, c.unit.ensures.upper_bound))
 
 pub overflow_add-result : goal.overflow_add-result
 overflow_add-result c =
-    let args = c.args in
-    let asked = c.requires in
-    let low-bits = c.low_bits in
-    let unit = c.unit in
-    let low = low_digits_most args.mask args.j asked.j_bound in
-    omega (arith, low-bits.ensures, low, digit_most unit.result args.s asked.s_bound, unit.ensures.upper_bound)
+    let low = low_digits_most c.args.mask c.args.j c.requires.j_bound in
+    rw (c.from.ensures, c.low_bits.ensures) (omega (arith, low, digit_most c.unit.result c.args.s c.requires.s_bound, c.unit.ensures.upper_bound))
 
 pub returns : goal.returns
 unfolding opened_mask mask_length
-returns c = rw (c.low_bits.ensures, c.unit.ensures.value)
+returns c = rw (c.low_bits.ensures, c.from.ensures, c.unit.ensures.value)

@@ -1,31 +1,23 @@
 -- `walk::shared::free_rows` meets its contract. The loop's invariant: the rows so far are freed, the others as found. Assumes nothing.
-use mathlib.Core.Path.{◌≡◌, refl, sym, ap, ◌∙◌}
-use Prim.Native.Nat.{ℕ, ◌+◌, ◌<◌}
-use native.Mathlib.Omega.{arith}
-use lib.ListN.{length}
-use Rattle.walk.proofs.OwnersSteps.{freed_to, freed_to_none, freed_to_all, length_freed_to, row_freed, row_kept}
+use mathlib.Core.Path.{sym}
+use lib.ListN.{take}
+use Rattle.walk.proofs.OwnersSteps.{freed_to_none, freed_to_all, row_freed, row_kept}
 use Rattle.walk.proofs.shared.free_rows.Goals as goal
-use Rattle.walk.proofs.shared.free_rows.Goals.{then-owners-i, else-owners-i}
+use Rattle.walk.proofs.shared.free_rows.Goals.{then-owner-rack, else-owner-rack}
 
-pub loop-i-init : goal.loop-i-init
-loop-i-init c = (omega arith, refl, sym (freed_to_none _ _))
+pub loop-owner-init : goal.loop-owner-init
+loop-owner-init c = sym (freed_to_none _ _)
 
-pub loop-i-preserved : goal.loop-i-preserved
-loop-i-preserved c =
-    let args = c.args in
-    let loop = c.loop-i in
-    let within : loop.i < length args.owners.now = omega arith in
-    let left : c.if-owners-i.owners ≡ freed_to args.rack (loop.i + 1) args.owners.now =
-    elim c.if-owners-i.branch [
-      | then-owners-i w ↦ row_freed args.rack loop.i args.owners.now loop.owners c.if-owners-i.owners within loop.invariant.2 w.if-owners-i.true w.owners-is
-      | else-owners-i w ↦ row_kept args.rack loop.i args.owners.now loop.owners c.if-owners-i.owners within loop.invariant.2 w.if-owners-i.false w.owners-is
+pub loop-owner-preserved : goal.loop-owner-preserved
+loop-owner-preserved c =
+    let loop = c.loop-owner in
+    let marks = take 64 c.args.owners.now in
+    elim c.if-owner-rack.branch [
+      | then-owner-rack w ↦ row_freed c.args.rack loop.owner-index marks loop.owner-items _ c.loop-owner-test.true loop.invariant w.if-owner-rack.true w.owner-items-is
+      | else-owner-rack w ↦ row_kept c.args.rack loop.owner-index marks loop.owner-items _ c.loop-owner-test.true loop.invariant w.if-owner-rack.false w.owner-items-is
     ]
-    in
-    (omega arith, ap length left ∙ length_freed_to args.rack (loop.i + 1) args.owners.now (omega arith), left)
 
 pub returns : goal.returns
 returns c =
-    let loop = c.loop-i in
-    let args = c.args in
-    let all : loop.i ≡ 64 = omega arith in
-    loop.invariant.2 ∙ ap (λ (n : ℕ). freed_to args.rack n args.owners.now) all ∙ freed_to_all args.rack args.owners.now
+    let loop = c.loop-owner in
+    freed_to_all c.args.rack loop.owner-index c.args.owners.now loop.owner-items c.requires c.loop-owner-test.false loop.auto.owner-index-end loop.invariant

@@ -1,46 +1,9 @@
--- `walk::shared::shared_by` meets its contract. The loop's invariant: each number is the count over the marks so far. Assumes nothing.
-use mathlib.Core.Path.{refl}
-use Prim.Native.Nat.{◌<◌}
-use native.Mathlib.Omega.{arith}
-use lib.ListN.{length}
-use Rattle.tails.specs.Sum.{tally, times}
-use Rattle.walk.proofs.OwnersSteps.{times_more, times_take_most, shares_counted}
+-- `walk::shared::shared_by` meets its contract: the counts of 64 marks tell whether each is one of the three (SharedTests.antt). Assumes nothing.
+use lib.Seq.{length-take-le}
+use Rattle.walk.proofs.SharedTests.{shares_most}
 use Rattle.walk.proofs.shared.shared_by.Goals as goal
 
-pub loop-i-init : goal.loop-i-init
-unfolding times tally
-loop-i-init c = (omega arith, refl, refl, refl)
-
-pub more-free-requires : goal.more-free-requires
-more-free-requires c =
-    let loop = c.loop-i in
-    let owners = c.args.owners.now in
-    omega (arith, loop.invariant.1, times_take_most 255 loop.i owners (omega arith))
-
-pub more-first-requires : goal.more-first-requires
-more-first-requires c =
-    let loop = c.loop-i in
-    let owners = c.args.owners.now in
-    omega (arith, loop.invariant.2, times_take_most 0 loop.i owners (omega arith))
-
-pub more-second-requires : goal.more-second-requires
-more-second-requires c =
-    let loop = c.loop-i in
-    let owners = c.args.owners.now in
-    omega (arith, loop.invariant.3, times_take_most 1 loop.i owners (omega arith))
-
-pub loop-i-preserved : goal.loop-i-preserved
-loop-i-preserved c =
-    let loop = c.loop-i in
-    let owners = c.args.owners.now in
-    let within : loop.i < length owners = omega arith in (
-      omega arith,
-      times_more 255 loop.i owners _ _ within loop.invariant.1 c.more-free.ensures,
-      times_more 0 loop.i owners _ _ within loop.invariant.2 c.more-first.ensures,
-      times_more 1 loop.i owners _ _ within loop.invariant.3 c.more-second.ensures,
-    )
-
-pub returns : goal.returns
-returns c =
-    let loop = c.loop-i in
-    shares_counted c.args.owners.now loop.i _ _ _ (omega arith) loop.invariant.1 loop.invariant.2 loop.invariant.3
+pub are_marks-requires : goal.are_marks-requires
+are_marks-requires c =
+    let chunk = c.in-Some.ensures.cases in
+    shares_most c.in-Some.marks.now _ (rw chunk.same (length-take-le 64 c.args.owners.now chunk.enough)) c.count_marks-shares.ensures

@@ -1,8 +1,0 @@
--- `player::told::put_refused` meets its contract: a word and a digit. Assumes nothing.
-use Rattle.player.proofs.Adding.{adds_then}
-use Rattle.player.specs.Answer.{refused_text}
-use Rattle.player.proofs.told.put_refused.Goals as goal
-
-pub returns : goal.returns
-unfolding refused_text
-returns c = rw c.digit.ensures at (adds_then c.put-next.ensures c.put.ensures)
