@@ -11,7 +11,8 @@ use Rattle.frames.specs.Frame.{is_sound}
 use Rattle.card.specs.declared.Card.{Card}
 use Rattle.card.specs.declared.Mode.{Mode}
 use Rattle.card.specs.declared.Reply.{Reply}
-use Rattle.card.specs.declared.Reply.TheVariants.{Error, Done}
+use Rattle.card.specs.declared.Reply.TheVariants.{Silence, Error, Done, Present, Blocks, Status, Information}
+use Rattle.card.specs.declared.Held.TheVariants.{Success}
 use Rattle.commands.specs.declared.Effect.{Effect}
 use Rattle.commands.specs.declared.Effect.TheVariants.{Leave}
 use Rattle.commands.specs.declared.Deed.{Deed}
@@ -22,6 +23,17 @@ use Rattle.commands.specs.declared.request.Address.TheVariants.{Nobody, Another,
 use Rattle.card.specs.Record.{is_quiet, is_selected, in_mode}
 use Rattle.commands.specs.Request.{deed, silent, done, failed, sorted, passed_by, addressed, unaddressed, requested}
 use Rattle.commands.specs.Verdict.{verdict, changed, kept, made, turned, to_whom, body_place, heeded}
+
+-- all but an error are held as success
+pub kept_success : (reply : Reply) → ((code : ℕ) → reply ≡ Error code → ⊥) → Success ≡ kept reply
+unfolding kept
+kept_success Silence h = refl
+kept_success (Error code) h = absurd (h code refl)
+kept_success Done h = refl
+kept_success Present h = refl
+kept_success (Blocks first n option) h = refl
+kept_success (Status first n) h = refl
+kept_success Information h = refl
 
 pub made_answer : (c : Card) (reply : Reply) → made c (verdict Nothing Leave reply false) ≡ deed c Leave reply
 unfolding made changed

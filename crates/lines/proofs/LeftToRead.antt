@@ -1,13 +1,13 @@
 -- What is left to read of an input, from a place on: a byte more, the end, a wrong line; and no more than 100 lines are counted.
 -- By the ways of the definitions. Assumes nothing.
 use mathlib.Core.Path.{◌≡◌, refl}
-use mathlib.Core.Bool.{Bool, true, false, cond, ◌&&◌}
+use mathlib.Core.Bool.{Bool, true, false, cond, ◌&&◌, and-eq-true_iff}
 use Prim.Native.Nat.{ℕ, zero, suc, ◌+◌, ◌≤◌, ◌<◌}
 use native.Mathlib.Numerals.{add-one}
 use native.Mathlib.Decide.{dec_lt}
 use native.Mathlib.Omega.{arith}
 use mathlib.Core.List.{List, [], ◌∷◌}
-use borrow.Author.Tests.{le-ltb, eq-eqb, ne_eqb}
+use borrow.Author.Tests.{ltb-true, eqb-true, le-ltb, eq-eqb, ne_eqb}
 use lib.Dec.{ltb, eqb}
 use lib.ListN.{length, drop, get_or}
 use lib.Seq.{drop-cons, drop-nil}
@@ -54,6 +54,15 @@ drop_past (x ∷ l) (suc i) h = drop_past l i (omega arith)
 pub end_left : (s : Lines) (input : List ℕ) (i : ℕ) → length input ≤ i → closed s ≡ read_from s (drop i input)
 unfolding read_from
 end_left s input i h = rw (drop_past input i h)
+
+-- there is a byte more, and no line was wrong
+abbrev pub goes_on : Lines → List ℕ → ℕ → Bool
+goes_on s input i = ltb i (length input) && eqb s.bad 0
+
+pub goes_on_lem : (s : Lines) (input : List ℕ) (i : ℕ) → goes_on s input i ≡ true → (i < length input) × (s.bad ≡ 0)
+goes_on_lem s input i on =
+    let both = (and-eq-true_iff (ltb i (length input)) _).0 on in
+    (ltb-true i (length input) both.0, eqb-true s.bad 0 both.1)
 
 pub fine_fresh : fresh_lines.bad ≡ 0
 unfolding fresh_lines

@@ -90,13 +90,11 @@ impl<'a> Ask<'a> {
     }
 
     // Makes the request and plays it, or tells why it can't be made.
-    pub(crate) fn play(self, rt: &HostRuntime, line: &[u8], tag: &mut Tag) -> Result<(), Told> {
+    pub(crate) fn play(self, rt: &HostRuntime, tag: &mut Tag, text: &mut Text) -> Result<(), Told> {
         let mut frame = [0u8; 45];
-        let mut text = Text::new();
-        text.put(line);
         let request = self.request(tag);
         match self.make(request, &mut frame) {
-            Ok(n) => play_request(request, &frame[..n.min(frame.len())], tag, &mut text),
+            Ok(n) => play_request(request, &frame[..n.min(frame.len())], tag, text),
             Err(refusal) => text.put_refused(refusal),
         }
         text.tell_record(rt, tag.card())

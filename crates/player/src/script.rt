@@ -100,37 +100,40 @@ fn order_of<'a>(line: &'a [u8], frame: &'a mut [u8]) -> Option<Order<'a>> {
     }
 }
 
-// Plays an event, and tells the line, the answer to it and the record after it.
-fn play(rt: &HostRuntime, line: &[u8], event: Event, tag: &mut Tag) -> Result<(), Told> {
+// Plays an event, and tells the answer to it and the record after it.
+fn play(rt: &HostRuntime, event: Event, tag: &mut Tag, text: &mut Text) -> Result<(), Told> {
     let mut room = [0u8; LONGEST_ANSWER];
-    let mut text = Text::new();
-    text.put(line);
     text.put_answer(tag.play(event, &mut room));
     text.tell_record(rt, tag.card())
 }
 
-// Tells a line of the script, and bytes, so many on a line.
-fn show(rt: &HostRuntime, line: &[u8], size: usize, bytes: &[u8]) -> Result<(), Told> {
-    let mut text = Text::new();
-    text.put(line);
+// Tells bytes, so many on a line.
+fn show(rt: &HostRuntime, size: usize, bytes: &[u8], text: &mut Text) -> Result<(), Told> {
     text.put_blocks(size, bytes);
     text.write(rt)
 }
 
-// Does what a line orders.
-fn obey(rt: &HostRuntime, line: &[u8], tag: &mut Tag) -> Result<(), Stop> {
+// Does what a line orders, and tells the line and what came of it.
+fn obey(rt: &HostRuntime, line: &[u8], tag: &mut Tag, text: &mut Text) -> Result<(), Stop> {
     let mut frame = [0u8; 86];
-    match order_of(line, &mut frame).ok_or(Stop::BadLine)? {
-        Order::Play(event) => play(rt, line, event, tag)?,
-        Order::Ask(ask) => ask.play(rt, line, tag)?,
-        Order::Memory => show(rt, line, tag.size(), tag.memory())?,
-        Order::Locks => show(rt, line, 256, tag.locks())?,
+    let order = order_of(line, &mut frame).ok_or(Stop::BadLine)?;
+    text.begin(line);
+    match order {
+        Order::Play(event) => play(rt, event, tag, text)?,
+        Order::Ask(ask) => ask.play(rt, tag, text)?,
+        Order::Memory => show(rt, tag.size(), tag.memory(), text)?,
+        Order::Locks => show(rt, 256, tag.locks(), text)?,
     }
     Ok(())
 }
 
 // Hears a line. The first tells the tag; one that is empty or starts with # is passed over.
-pub(crate) fn hear(rt: &HostRuntime, line: &[u8], tag: &mut Option<Tag>) -> Result<(), Stop> {
+pub(crate) fn hear(
+    rt: &HostRuntime,
+    line: &[u8],
+    tag: &mut Option<Tag>,
+    text: &mut Text,
+) -> Result<(), Stop> {
     if line.len() > 256 {
         return Err(Stop::BadLine);
     }
@@ -138,7 +141,7 @@ pub(crate) fn hear(rt: &HostRuntime, line: &[u8], tag: &mut Option<Tag>) -> Resu
         return Ok(());
     }
     if let Some(tag) = tag {
-        return obey(rt, line, tag);
+        return obey(rt, line, tag, text);
     }
     let card = card_of(line).ok_or(Stop::BadLine)?;
     *tag = Some(Tag::new(card));

@@ -3,7 +3,7 @@ ghost use Rattle.std.specs.Prelude.{[], ◌∷◌, ◌++◌};
 ghost use Rattle.digits.specs.Digits.{hex_digits};
 ghost use Rattle.digits.specs.Rows.{row_text};
 ghost use Rattle.refusals.specs.Number.{number};
-ghost use Rattle.player.specs.Text.{Grows};
+ghost use Rattle.player.specs.Text.{Adds, Grows};
 ghost use Rattle.player.specs.Answer.{pairs_text, refused_text, heard_text, answer_text};
 ghost use Rattle.player.specs.Record.{mode_text, mask_text, running_text, sequence_text, held_text, kept_text, record_text};
 
@@ -16,7 +16,7 @@ use refusals::Refusal;
 // that and of a record, less than 256.
 const MOST_TOLD: usize = 256 + 3 * (45 + LONGEST_ANSWER + 8192 + 256) + 256;
 
-// A text that is put together piece by piece, and cut off where there is no room left.
+// A text that is put together piece by piece, and cut off where there is no room left. There is one, lent on: it is large, and one that moves is copied.
 #[derive(Drop)]
 pub(crate) struct Text {
     bytes: [u8; MOST_TOLD],
@@ -29,6 +29,14 @@ impl Text {
             bytes: [0; MOST_TOLD],
             at: 0,
         }
+    }
+
+    // Begins anew, with bytes.
+    pub(crate) fn begin(&mut self, bytes: &[u8])
+        ensures { Adds 0 bytes.now self.old.bytes self.new.at self.new.bytes }
+    {
+        self.at = 0;
+        self.put(bytes);
     }
 
     // Adds bytes, as many as there is room for.
@@ -196,7 +204,7 @@ impl Text {
     }
 
     // Writes the text with a line feed after it. A write that fails is told.
-    pub(crate) fn write(mut self, rt: &HostRuntime) -> Result<(), Told> {
+    pub(crate) fn write(&mut self, rt: &HostRuntime) -> Result<(), Told> {
         self.put(b"\n");
         let n = self.at.min(self.bytes.len());
         let written = rt.write_all(&self.bytes[..n]);
@@ -204,18 +212,17 @@ impl Text {
     }
 
     // Ends what is told of an event with the record after it.
-    pub(crate) fn tell_record(mut self, rt: &HostRuntime, card: Card) -> Result<(), Told> {
+    pub(crate) fn tell_record(&mut self, rt: &HostRuntime, card: Card) -> Result<(), Told> {
         self.put_record(card);
         self.write(rt)
     }
-}
 
-// Tells the number of a line that can't be read.
-pub(crate) fn tell_bad_line(rt: &HostRuntime, number: u64) -> Result<(), Told> {
-    let mut text = Text::new();
-    let mut decimal = [0u8; 20];
-    let n = digits::put_decimal(number, &mut decimal, 0).unwrap_or(0);
-    text.put(b"bad line ");
-    text.put(&decimal[..n.min(decimal.len())]);
-    text.write(rt)
+    // Tells the number of a line that can't be read.
+    pub(crate) fn tell_bad_line(&mut self, rt: &HostRuntime, number: u64) -> Result<(), Told> {
+        let mut decimal = [0u8; 20];
+        let n = digits::put_decimal(number, &mut decimal, 0).unwrap_or(0);
+        self.begin(b"bad line ");
+        self.put(&decimal[..n.min(decimal.len())]);
+        self.write(rt)
+    }
 }

@@ -1,3 +1,4 @@
+mod Fields
 mod Reading
 mod Putting
 pub mod RoundTrip

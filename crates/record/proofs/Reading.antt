@@ -1,28 +1,14 @@
 -- A card read from the bytes of its record, field by field. By the definition. Assumes nothing.
 use mathlib.Core.Path.{◌≡◌, ap, ◌∙◌}
 use mathlib.Core.List.{List}
-use Prim.Native.Nat.{ℕ, ◌^◌, ◌≤◌, ◌<◌}
-use native.Mathlib.Omega.{arith}
-use native.Mathlib.Nat.{pow-le-pow_right}
-use lib.ListN.{length, take, drop, get_or, length-take}
-use Rattle.lent.specs.Bytes.{Bytes}
-use Rattle.lent.proofs.Bytes.{bytes_take, bytes_drop}
+use Prim.Native.Nat.{ℕ}
+use lib.ListN.{get_or}
 use Rattle.frames.specs.Field.{field_at}
-use Rattle.frames.proofs.Fields.{field_of_below}
 use Rattle.card.specs.declared.Card.{Card}
 use Rattle.card.specs.declared.Mode.{Mode}
 use Rattle.card.specs.declared.Sequence.{Sequence}
 use Rattle.card.specs.declared.Held.{Held}
 use Rattle.record.specs.Record.{flag_of, mode_of, sequence_of, held_of, card_of}
-
--- a field of four bytes is a number of 32 bits
-pub four_below : (bytes : List ℕ) (at : ℕ) {n : ℕ} → Bytes bytes → n ≡ field_at bytes at 4 → n < 2 ^ 32
-unfolding field_at
-four_below bytes at bs is =
-    let part : List ℕ = take 4 (drop at bytes) in
-    let few : length part ≤ 4 = rw length-take (omega arith) in
-    let most : 256 ^ length part ≤ 256 ^ 4 = pow-le-pow_right {n = 256} (omega arith) {i = length part} {j = 4} few in
-    omega (arith, is, field_of_below part (bytes_take 4 (drop at bytes) (bytes_drop at bytes bs)), most)
 
 pub card_read_lem : (bytes : List ℕ) {blocks size uid mask : ℕ} {mode : Mode} {sequence : Sequence} {held : Held} → blocks ≡ field_at bytes 8 4
     → size ≡ field_at bytes 12 4 → uid ≡ field_at bytes 0 8 → mode ≡ mode_of (get_or bytes 21 0)

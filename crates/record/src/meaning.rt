@@ -1,8 +1,26 @@
 // What the bytes mean: the card that a record of forty bytes holds.
-ghost use Rattle.std.specs.Prelude.{◌≡◌, [], length};
+ghost use Rattle.std.specs.Prelude.{◌≡◌, [], ◌+◌, ◌≤◌, length};
+ghost use Rattle.frames.specs.Field.{field_at};
 ghost use Rattle.record.specs.Record.{mode_of, sequence_of, held_of, card_of};
 
 use card::{Card, Held, Mode, Sequence};
+
+// Four bytes at a place, as the record's numbers are read: by `frames::field`, which looks at each byte by itself, an event took up to twice as long.
+fn four(bytes: &[u8], at: usize) -> u32
+    requires { at + 4 ≤ length bytes.now }
+    ensures { result ≡ field_at bytes.now at 4 }
+{
+    frames::join(bytes[at], bytes[at + 1], bytes[at + 2], bytes[at + 3])
+}
+
+fn eight(bytes: &[u8], at: usize) -> u64
+    requires { at + 8 ≤ length bytes.now }
+    ensures { result ≡ field_at bytes.now at 8 }
+{
+    let low = four(bytes, at);
+    let high = four(bytes, at + 4);
+    u64::from(low) + 4294967296 * u64::from(high)
+}
 
 #[tactic(auto, unfolding(crate::specs::Record::mode_of))]
 fn mode_of(b: u8) -> Mode
@@ -42,16 +60,16 @@ pub(crate) fn card_of(bytes: &[u8]) -> Card
     ensures { result ≡ card_of bytes.now }
 {
     Card {
-        blocks: frames::field(bytes, 8, 4) as u32,
-        size: frames::field(bytes, 12, 4) as u32,
-        uid: frames::field(bytes, 0, 8),
+        blocks: four(bytes, 8),
+        size: four(bytes, 12),
+        uid: eight(bytes, 0),
         afi: bytes[16],
         dsfid: bytes[17],
         afi_locked: 0 < bytes[18],
         dsfid_locked: 0 < bytes[19],
         ic_reference: bytes[20],
         mode: mode_of(bytes[21]),
-        sequence: sequence_of(bytes[22], bytes[23], bytes[24], frames::field(bytes, 32, 8)),
+        sequence: sequence_of(bytes[22], bytes[23], bytes[24], eight(bytes, 32)),
         held: held_of(bytes[25]),
     }
 }

@@ -13,14 +13,28 @@ use Rattle.lent.specs.Lent.{over, placed}
 use Rattle.crc.specs.Check.{check_bytes, sealed}
 use Rattle.frames.specs.Field.{field_bytes, put_leaves, PutsField}
 use Rattle.frames.specs.Frame.{seal_leaves, Seals}
+use Rattle.card.specs.declared.Card.{Card}
+use Rattle.card.specs.declared.Reply.{Reply}
+use Rattle.card.specs.declared.Reply.TheVariants as reply
 use Rattle.walk.specs.declared.Walk.{Walk}
 use Rattle.walk.specs.declared.Kind.{Kind}
 use Rattle.walk.specs.declared.Kind.TheVariants as kinds
 use Rattle.walk.specs.Hear.{judged, Hearing, hearing, walk_of, Hears}
 use Rattle.row.specs.declared.Air.{Air}
 use Rattle.row.specs.declared.Desk.{Desk}
-use Rattle.row.specs.Row.{air_kind, air_bytes, desk_after}
+use Rattle.row.specs.Row.{crowded, air_with, air_kind, air_bytes, desk_after}
 use Rattle.row.specs.Steps.{no_answer, bytes_heard}
+
+-- a reply that is neither silence nor present, as the last arm of the match has it
+pub other_crowds : (air : Air) (c : Card) (r : Reply) → (r ≡ reply.Silence → ⊥) → (r ≡ reply.Present → ⊥) → crowded air ≡ air_with air c r
+unfolding air_with
+other_crowds air c reply.Silence s p = absurd (s refl)
+other_crowds air c (reply.Error code) s p = refl
+other_crowds air c reply.Done s p = refl
+other_crowds air c reply.Present s p = absurd (p refl)
+other_crowds air c (reply.Blocks first n option) s p = refl
+other_crowds air c (reply.Status first n) s p = refl
+other_crowds air c reply.Information s p = refl
 
 -- room for an answer, with the DSFID
 abbrev pub begun : ℕ → List ℕ
